@@ -1,0 +1,13 @@
+// The words of the collector as types, and what a heap of cells means.
+mod colour;
+mod heap;
+mod reference;
+mod refusal;
+mod written;
+
+pub use colour::Colour;
+pub use heap::Heap;
+pub use reference::Reference;
+pub use refusal::Refusal;
+pub use refusal::ask;
+pub use written::ReferenceDisplay;
