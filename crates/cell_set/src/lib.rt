@@ -1,0 +1,4 @@
+// Sets of cells of one node.
+mod set;
+
+pub use set::CellSet;

@@ -1,0 +1,97 @@
+// The heap's meaning, and its choices.
+ghost use mathlib.Core.Path.{_≡_};
+ghost use mathlib.Core.Bool.{_&&_};
+ghost use lib.Dec.{leb};
+ghost use lib.ListN.{getD};
+ghost use Rattle.model.specs.Tables.{first, or-else};
+ghost use Rattle.cell_set.specs.Sets.{has};
+ghost use Rattle.std.specs.declared.option.Option.the-variants.{None};
+ghost use Rattle.model.specs.Refusals.{Answers};
+ghost use Rattle.model.specs.Cells.{all-free, slots-of, written, shaded, blackened, change};
+ghost use Rattle.model.specs.Heaps.{node-asks, make-asks, cell-asks, slot-asks, blacken-asks, Made, Coloured, Grey-cell, Reclaimed};
+ghost use Rattle.heaps.specs.Next.{next-cells, starts, at-zero, Makes-next, Answers-lowest};
+use super::NextHeap;
+use cell_set::CellSet;
+use model::Colour;
+use model::Heap;
+use model::Reference;
+use model::Refusal;
+
+pub impl Heap for NextHeap as NextCells {
+    ghost cells = { next-cells };
+
+    fn clear(&mut self)
+        ensures cells { λ _. ⌜ next-cells (now (self .exit)) ≡ all-free ⌝ }
+        ensures choice { λ _. ⌜ starts (now (self .exit)) ≡ at-zero ⌝ }
+    {
+        self.table.clear();
+        self.start = [0; 16];
+    }
+
+    fn make(&mut self, node: u8, colour: Colour) -> Result<u8, Refusal>
+        ensures cells { λ r. ⌜ Answers (make-asks (next-cells (now (self .entry))) node) r (now (self .exit) ≡ now (self .entry)) (Made (next-cells (now (self .entry))) node colour (next-cells (now (self .exit)))) ⌝ }
+        ensures choice { λ r. ⌜ Makes-next (now (self .entry)) node r (now (self .exit)) ⌝ }
+    {
+        let free = self.table.free(node)?;
+        let Some(cell) = from_start(free, self.start[node as usize]) else {
+            return Err(Refusal::NoFreeCell);
+        };
+        self.table.occupy(node, cell, colour);
+        self.start[node as usize] = cell + 1;
+        Ok(cell)
+    }
+
+    fn slot(&self, node: u8, cell: u8, slot: u8) -> Result<Option<Reference>, Refusal> {
+        self.table.slot(node, cell, slot)
+    }
+
+    fn set_slot(&mut self, node: u8, cell: u8, slot: u8, what: Option<Reference>) -> Result<(), Refusal>
+        ensures cells { λ r. ⌜ Answers (slot-asks (next-cells (now (self .entry))) node cell slot) r (now (self .exit) ≡ now (self .entry)) (λ _. next-cells (now (self .exit)) ≡ change (written slot what) (next-cells (now (self .entry))) node cell) ⌝ }
+        ensures choice { λ _. ⌜ starts (now (self .exit)) ≡ starts (now (self .entry)) ⌝ }
+    {
+        self.table.set_slot(node, cell, slot, what)
+    }
+
+    fn colour(&self, node: u8, cell: u8) -> Result<Colour, Refusal> {
+        self.table.colour(node, cell)
+    }
+
+    fn shade(&mut self, node: u8, cell: u8) -> Result<(), Refusal>
+        ensures cells { λ r. ⌜ Answers (cell-asks (next-cells (now (self .entry))) node cell) r (now (self .exit) ≡ now (self .entry)) (λ _. next-cells (now (self .exit)) ≡ change shaded (next-cells (now (self .entry))) node cell) ⌝ }
+        ensures choice { λ _. ⌜ starts (now (self .exit)) ≡ starts (now (self .entry)) ⌝ }
+    {
+        self.table.shade(node, cell)
+    }
+
+    fn blacken(&mut self, node: u8, cell: u8) -> Result<(), Refusal>
+        ensures cells { λ r. ⌜ Answers (blacken-asks (next-cells (now (self .entry))) node cell) r (now (self .exit) ≡ now (self .entry)) (λ _. next-cells (now (self .exit)) ≡ change blackened (next-cells (now (self .entry))) node cell) ⌝ }
+        ensures choice { λ _. ⌜ starts (now (self .exit)) ≡ starts (now (self .entry)) ⌝ }
+    {
+        self.table.blacken(node, cell)
+    }
+
+    fn grey(&self, node: u8) -> Result<Option<u8>, Refusal>
+        ensures cells { λ r. ⌜ Answers (node-asks node) r (Unit {0}) (Grey-cell (next-cells (now (self .entry))) node) ⌝ }
+        ensures choice { λ r. ⌜ Answers-lowest (now (self .entry)) node r ⌝ }
+    {
+        let grey = self.table.grey(node)?;
+        Ok(grey.lowest())
+    }
+
+    fn reclaim(&mut self, node: u8) -> Result<(u8, u8), Refusal>
+        ensures cells { λ r. ⌜ Answers (node-asks node) r (now (self .exit) ≡ now (self .entry)) (Reclaimed (next-cells (now (self .entry))) node (next-cells (now (self .exit)))) ⌝ }
+        ensures choice { λ _. ⌜ starts (now (self .exit)) ≡ starts (now (self .entry)) ⌝ }
+    {
+        self.table.reclaim(node)
+    }
+}
+
+// The first cell of the set from `start` on, going round.
+fn from_start(free: CellSet, start: u8) -> Option<u8>
+    ensures { λ r. ⌜ r ≡ or-else (first 64 (λ c. leb start c && has free c)) (first 64 (has free)) ⌝ }
+{
+    match free.lowest_from(start) {
+        Some(cell) => Some(cell),
+        None => free.lowest(),
+    }
+}
