@@ -110,20 +110,20 @@ either-cells v w c =
 pub lacking-cells : (v w c : ℕ) → w < 2 ^ 64 → (ltb c 64 && bit (bitAnd v (2 ^ 64 - 1 - w)) c) ≡ ((ltb c 64 && bit v c) && not (ltb c 64 && bit w c))
 lacking-cells v w c fits =
     in-range c (λ b. (b && bit (bitAnd v (2 ^ 64 - 1 - w)) c) ≡ ((b && bit v c) && not (b && bit w c)))
-      (λ h. bit-and v (2 ^ 64 - 1 - w) c ∙ ap (λ b. bit v c && b) (bit-not w c fits h)) (λ h. refl)
+    (λ h. bit-and v (2 ^ 64 - 1 - w) c ∙ ap (λ b. bit v c && b) (bit-not w c fits h)) (λ h. refl)
 
 -- one cell more, one cell fewer, and a number that is no cell's
 pub with-cell : (w k c : ℕ) → k < 64 → (ltb c 64 && bit (bitOr w (2 ^ k)) c) ≡ put (λ d. ltb d 64 && bit w d) k true c
 with-cell w k c h =
     put-elim (λ d b. (ltb d 64 && bit (bitOr w (2 ^ k)) d) ≡ b) (λ d. ltb d 64 && bit w d) k true c
-      (and-from (ltb k 64) (bit (bitOr w (2 ^ k)) k) (lt-ltb k 64 h) (bit-or w (2 ^ k) k ∙ or-right (bit w k) (bit (2 ^ k) k) (bit-pow k k ∙ eq-eqb k k refl)))
-      (λ off. ap (λ b. ltb c 64 && b) (bit-or w (2 ^ k) c ∙ ap (λ b. bit w c || b) (bit-pow k c ∙ ne-eqb c k off) ∙ or-false (bit w c)))
+    (and-from (ltb k 64) (bit (bitOr w (2 ^ k)) k) (lt-ltb k 64 h) (bit-or w (2 ^ k) k ∙ or-right (bit w k) (bit (2 ^ k) k) (bit-pow k k ∙ eq-eqb k k refl)))
+    (λ off. ap (λ b. ltb c 64 && b) (bit-or w (2 ^ k) c ∙ ap (λ b. bit w c || b) (bit-pow k c ∙ ne-eqb c k off) ∙ or-false (bit w c)))
 
 pub without-cell : (w k c : ℕ) → k < 64 → (ltb c 64 && bit (bitAnd w (2 ^ 64 - 1 - 2 ^ k)) c) ≡ put (λ d. ltb d 64 && bit w d) k false c
 without-cell w k c h =
     put-elim (λ d b. (ltb d 64 && bit (bitAnd w (2 ^ 64 - 1 - 2 ^ k)) d) ≡ b) (λ d. ltb d 64 && bit w d) k false c
-      (lacking k ∙ ap (λ b. (ltb k 64 && bit w k) && not (ltb k 64 && b)) (eq-eqb k k refl) ∙ ap (λ b. (b && bit w k) && not (b && true)) (lt-ltb k 64 h) ∙ and-false (bit w k))
-      (λ off. lacking c ∙ ap (λ b. (ltb c 64 && bit w c) && not (ltb c 64 && b)) (ne-eqb c k off) ∙ ap (λ b. (ltb c 64 && bit w c) && not b) (and-false (ltb c 64)) ∙ and-true (ltb c 64 && bit w c))
+    (lacking k ∙ ap (λ b. (ltb k 64 && bit w k) && not (ltb k 64 && b)) (eq-eqb k k refl) ∙ ap (λ b. (b && bit w k) && not (b && true)) (lt-ltb k 64 h) ∙ and-false (bit w k))
+    (λ off. lacking c ∙ ap (λ b. (ltb c 64 && bit w c) && not (ltb c 64 && b)) (ne-eqb c k off) ∙ ap (λ b. (ltb c 64 && bit w c) && not b) (and-false (ltb c 64)) ∙ and-true (ltb c 64 && bit w c))
   where
     lacking : (d : ℕ) → (ltb d 64 && bit (bitAnd w (2 ^ 64 - 1 - 2 ^ k)) d) ≡ ((ltb d 64 && bit w d) && not (ltb d 64 && eqb d k))
     lacking d = lacking-cells w (2 ^ k) d (pow-below k 64 h) ∙ ap (λ b. (ltb d 64 && bit w d) && not (ltb d 64 && b)) (bit-pow k d)
@@ -146,6 +146,7 @@ past-width w c fits h = ap (λ n. eqb (n % 2) 1) nothing
   where
     wide : w < 2 ^ c
     wide = lt-of-lt-of-le fits (pow-mono h)
+
     nothing : w / 2 ^ c ≡ 0
     nothing = omega (arith, div-below w (2 ^ c) 1 (pow-pos c) (omega (arith, wide)))
 
@@ -173,5 +174,5 @@ module _ (w from : ℕ) (fits : w < 2 ^ 64) (low : from < 64) where
       let here : bit w (from + zeros) ≡ true = sym (bit-shr w from zeros) ∙ eq-eqb (digit (w / 2 ^ from) zeros) 1 (trailing-at 64 (w / 2 ^ from) stops) in
       let cell : from + zeros < 64 = ⊎-elim (λ h. h) (λ h. absurd (false≢true (sym (past-width w (from + zeros) fits h) ∙ here))) (cases-lt (from + zeros) 64) in
       first-some 64 (from-on w from) (from + zeros) cell
-        (and-from (leb from (from + zeros)) (ltb (from + zeros) 64 && bit w (from + zeros)) (le-leb from (from + zeros) (omega arith)) (and-from (ltb (from + zeros) 64) (bit w (from + zeros)) (lt-ltb (from + zeros) 64 cell) here))
-        (λ c h. absent c (λ l. ap (λ d. eqb d 1) (trailing-below 64 (w / 2 ^ from) (c - from) (omega arith))))
+      (and-from (leb from (from + zeros)) (ltb (from + zeros) 64 && bit w (from + zeros)) (le-leb from (from + zeros) (omega arith)) (and-from (ltb (from + zeros) 64) (bit w (from + zeros)) (lt-ltb (from + zeros) 64 cell) here))
+      (λ c h. absent c (λ l. ap (λ d. eqb d 1) (trailing-below 64 (w / 2 ^ from) (c - from) (omega arith))))

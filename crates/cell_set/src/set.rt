@@ -53,14 +53,18 @@ impl CellSet {
     pub fn union(self, other: CellSet) -> CellSet
         ensures { λ r. ⌜ ((c : ℕ) → has r c ≡ (has self c || has other c)) ⌝ }
     {
-        CellSet { word: self.word | other.word }
+        CellSet {
+            word: self.word | other.word,
+        }
     }
 
     // The cells of this set that the other lacks.
     pub fn minus(self, other: CellSet) -> CellSet
         ensures { λ r. ⌜ ((c : ℕ) → has r c ≡ (has self c && not (has other c))) ⌝ }
     {
-        CellSet { word: self.word & !other.word }
+        CellSet {
+            word: self.word & !other.word,
+        }
     }
 
     // How many cells it has.

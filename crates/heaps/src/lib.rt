@@ -1,5 +1,5 @@
 // Two heaps: one makes the next free cell, the other the cell freed last.
 mod next;
 
-pub use next::NextHeap;
 pub use next::NextCells;
+pub use next::NextHeap;

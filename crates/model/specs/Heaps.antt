@@ -5,16 +5,17 @@ use mathlib.Core.List.{[], _∷_}
 use mathlib.Core.Bool.{Bool, true, false, _&&_}
 use Prim.Native.Nat.{ℕ, _<_}
 use lib.Dec.{ltb}
-use lib.ListN.{length, getD}
+use lib.ListN.{getD}
 use Rattle.std.specs.declared.option.Option.{Option}
 use Rattle.std.specs.declared.option.Option.the-variants.{Some, None}
+use Rattle.std.specs.declared.result.Result.{Result}
 use Rattle.model.specs.Tables.{put₂, first, is-some}
-use Rattle.model.specs.Refusals.{Questions}
-use Rattle.model.specs.Cells.{Cell, Cells, empty-slots, slots-of, is-free, is-used, is-grey, reclaim, freed-count, kept-count}
+use Rattle.model.specs.Refusals.{Questions, Answers}
+use Rattle.model.specs.Cells.{Cell, Cells, empty-slots, slots-of, is-free, is-used, is-grey, written, shaded, blackened, change, reclaim, freed-count, kept-count}
 use Rattle.model.specs.Cells.Cell.{free, used}
 use Rattle.model.specs.declared.colour.Colour.{Colour}
-use Rattle.model.specs.declared.colour.Colour.the-variants.{White, Grey, Black}
 use Rattle.model.specs.declared.reference.Reference.{Reference}
+use Rattle.model.specs.declared.refusal.Refusal.{Refusal}
 
 abbrev pub in-use : Cells → ℕ → ℕ → Bool
 in-use cells n c = ltb c 64 && is-used (cells n c)
@@ -57,3 +58,30 @@ pub record Reclaimed (before : Cells) (n : ℕ) (after : Cells) (counts : ℕ ×
   pub cells : after ≡ reclaim before n
   pub freed : counts .0 ≡ freed-count before n
   pub kept : counts .1 ≡ kept-count before n
+
+-- what each call means of a heap whose cells are given by `cells`: before the call, its arguments, its answer, and the heap after it
+module _ {S : Type 0} (cells : S → Cells) where
+  abbrev pub Makes : S → ℕ → Colour → Result ℕ Refusal → S → Type 0
+  Makes before n colour r after = Answers (make-asks (cells before) n) r (after ≡ before) (Made (cells before) n colour (cells after))
+
+  abbrev pub Reads-slot : S → ℕ → ℕ → ℕ → Result (Option Reference) Refusal → Type 0
+  Reads-slot heap n c i r = Answers (slot-asks (cells heap) n c i) r (Unit {0}) (λ what. what ≡ getD (slots-of (cells heap n c)) i None)
+
+  abbrev pub Writes-slot : S → ℕ → ℕ → ℕ → Option Reference → Result Unit Refusal → S → Type 0
+  Writes-slot before n c i what r after =
+      Answers (slot-asks (cells before) n c i) r (after ≡ before) (λ _. cells after ≡ change (written i what) (cells before) n c)
+
+  abbrev pub Reads-colour : S → ℕ → ℕ → Result Colour Refusal → Type 0
+  Reads-colour heap n c r = Answers (cell-asks (cells heap) n c) r (Unit {0}) (Coloured (cells heap n c))
+
+  abbrev pub Shades : S → ℕ → ℕ → Result Unit Refusal → S → Type 0
+  Shades before n c r after = Answers (cell-asks (cells before) n c) r (after ≡ before) (λ _. cells after ≡ change shaded (cells before) n c)
+
+  abbrev pub Blackens : S → ℕ → ℕ → Result Unit Refusal → S → Type 0
+  Blackens before n c r after = Answers (blacken-asks (cells before) n c) r (after ≡ before) (λ _. cells after ≡ change blackened (cells before) n c)
+
+  abbrev pub Answers-grey : S → ℕ → Result (Option ℕ) Refusal → Type 0
+  Answers-grey heap n r = Answers (node-asks n) r (Unit {0}) (Grey-cell (cells heap) n)
+
+  abbrev pub Reclaims : S → ℕ → Result (ℕ × ℕ) Refusal → S → Type 0
+  Reclaims before n r after = Answers (node-asks n) r (after ≡ before) (Reclaimed (cells before) n (cells after))

@@ -8,4 +8,5 @@ pub struct Reference {
     ghost near: { node < 16 },
     ghost low: { cell < 64 },
 }
+
 mod makes;

@@ -36,7 +36,7 @@ module _ (sets : List CellSet) (n c : ℕ) (s : CellSet) (b : Bool) (near : n < 
       go : (m ≡ n) ⊎ (m ≡ n → ⊥) → in-set (set sets n s) m d ≡ in-set sets m d
       go (inl e) =
           subst (λ k. in-set (set sets n s) k d ≡ in-set sets k d) (sym e)
-            (ap (λ x. has x d) (getD-set-same sets n s (record { word = 0 }) near) ∙ change d ∙ put-there (in-set sets n) c b d (off e))
+          (ap (λ x. has x d) (getD-set-same sets n s (record { word = 0 }) near) ∙ change d ∙ put-there (in-set sets n) c b d (off e))
       go (inr other) = ap (λ x. has x d) (getD-set-other sets n m s (record { word = 0 }) other)
 
 -- the cell at n and c changes, and no other does
@@ -104,8 +104,8 @@ all-freed s black grey slots all = fun-ext (λ n. fun-ext (λ c. go n c (cases-l
     go : (n c : ℕ) → (n < 16) ⊎ (16 ≤ n) → cells-of (record { free = replicate 16 s; black = black; grey = grey; slots = slots }) n c ≡ free
     go n c (inl h) =
         by-range (record { free = replicate 16 s; black = black; grey = grey; slots = slots }) n c (λ b x. x ≡ free) h
-          (λ l. ap (λ f. cell-of f (in-set black n c) (in-set grey n c) (four slots (256 * n + 4 * c))) (ap (λ x. has x c) (getD-replicate 16 n s (record { word = 0 }) h) ∙ all c ∙ lt-ltb c 64 l))
-          refl
+        (λ l. ap (λ f. cell-of f (in-set black n c) (in-set grey n c) (four slots (256 * n + 4 * c))) (ap (λ x. has x c) (getD-replicate 16 n s (record { word = 0 }) h) ∙ all c ∙ lt-ltb c 64 l))
+        refl
     go n c (inr h) = ap (λ b. cond (b && ltb c 64) (held (record { free = replicate 16 s; black = black; grey = grey; slots = slots }) n c) free) (le-ltb n 16 h)
 
 same-cell : {f g : Bool} {b b′ : Bool} {w w′ : Bool} {s s′ : Slots} → f ≡ g → b ≡ b′ → w ≡ w′ → s ≡ s′ → cell-of f b w s ≡ cell-of g b′ w′ s′
@@ -121,8 +121,8 @@ four-emptied : (slots : List (Option Reference)) (k : ℕ) → k + 3 < length sl
 four-emptied slots k room =
     four-written (set (set (set slots k None) (k + 1) None) (k + 2) None) (k + 3) None k 3 refl (omega arith) (simp length-set room)
     ∙ ap (λ s. set s 3 None) (four-written (set (set slots k None) (k + 1) None) (k + 2) None k 2 refl (omega arith) (simp length-set room)
-      ∙ ap (λ s. set s 2 None) (four-written (set slots k None) (k + 1) None k 1 refl (omega arith) (simp length-set room)
-        ∙ ap (λ s. set s 1 None) (four-written slots k None k 0 (omega arith) (omega arith) room)))
+    ∙ ap (λ s. set s 2 None) (four-written (set slots k None) (k + 1) None k 1 refl (omega arith) (simp length-set room)
+    ∙ ap (λ s. set s 1 None) (four-written slots k None k 0 (omega arith) (omega arith) room)))
 
 emptied-apart : (slots : List (Option Reference)) (k j : ℕ) → ((a b : ℕ) → a < 4 → b < 4 → j + a ≡ k + b → ⊥) → four (emptied slots k) j ≡ four slots j
 emptied-apart slots k j off =
@@ -139,8 +139,8 @@ module _ (t : Table) (n c : ℕ) (near : n < 16) (low : c < 64) where
       let change = subst (λ b. (d : ℕ) → has s d ≡ put (in-set (t .grey) n) c b d) (lt-ltb c 64 low) more in
       let look : ℕ → ℕ → Bool → Cell = λ m d b. cell-of (in-set (t .free) m d) (in-set (t .black) m d) b (four (t .slots) (256 * m + 4 * d)) in
       cell-changed shaded t _ n c near low
-        (ap (look n c) (set-here (t .grey) n c s true room change) ∙ shaded-cell (in-set (t .free) n c) (in-set (t .black) n c) (in-set (t .grey) n c) (four (t .slots) (256 * n + 4 * c)))
-        (λ m d l off. ap (look m d) (set-there (t .grey) n c s true room change m d off))
+      (ap (look n c) (set-here (t .grey) n c s true room change) ∙ shaded-cell (in-set (t .free) n c) (in-set (t .black) n c) (in-set (t .grey) n c) (four (t .slots) (256 * n + 4 * c)))
+      (λ m d l off. ap (look m d) (set-there (t .grey) n c s true room change m d off))
 
   pub blackens : (s : CellSet) → n < length (t .black) → is-grey (cells-of t n c) ≡ true → ((d : ℕ) → has s d ≡ put (in-set (t .black) n) c (ltb c 64) d)
       → cells-of (record { free = t .free; black = set (t .black) n s; grey = t .grey; slots = t .slots }) ≡ change blackened (cells-of t) n c
@@ -148,16 +148,16 @@ module _ (t : Table) (n c : ℕ) (near : n < 16) (low : c < 64) where
       let change = subst (λ b. (d : ℕ) → has s d ≡ put (in-set (t .black) n) c b d) (lt-ltb c 64 low) more in
       let look : ℕ → ℕ → Bool → Cell = λ m d b. cell-of (in-set (t .free) m d) b (in-set (t .grey) m d) (four (t .slots) (256 * m + 4 * d)) in
       cell-changed blackened t _ n c near low
-        (ap (look n c) (set-here (t .black) n c s true room change) ∙ blackened-cell (in-set (t .free) n c) (in-set (t .black) n c) (in-set (t .grey) n c) (four (t .slots) (256 * n + 4 * c)) (ap is-grey (sym (cell-in t n c near low)) ∙ grey))
-        (λ m d l off. ap (look m d) (set-there (t .black) n c s true room change m d off))
+      (ap (look n c) (set-here (t .black) n c s true room change) ∙ blackened-cell (in-set (t .free) n c) (in-set (t .black) n c) (in-set (t .grey) n c) (four (t .slots) (256 * n + 4 * c)) (ap is-grey (sym (cell-in t n c near low)) ∙ grey))
+      (λ m d l off. ap (look m d) (set-there (t .black) n c s true room change m d off))
 
   pub writes : (i j : ℕ) (what : Option Reference) → j ≡ 256 * n + 4 * c + i → i < 4 → length (t .slots) ≡ 4096
       → cells-of (record { free = t .free; black = t .black; grey = t .grey; slots = set (t .slots) j what }) ≡ change (written i what) (cells-of t) n c
   writes i j what place small room =
       let look : ℕ → ℕ → Slots → Cell = λ m d slots. cell-of (in-set (t .free) m d) (in-set (t .black) m d) (in-set (t .grey) m d) slots in
       cell-changed (written i what) t _ n c near low
-        (ap (look n c) (four-written (t .slots) j what (256 * n + 4 * c) i place small (omega arith)) ∙ written-cell (in-set (t .free) n c) (in-set (t .black) n c) (in-set (t .grey) n c) (four (t .slots) (256 * n + 4 * c)) i what)
-        (λ m d l off. ap (look m d) (four-apart (t .slots) j what (256 * m + 4 * d) (λ k h e. off (omega arith) (omega arith))))
+      (ap (look n c) (four-written (t .slots) j what (256 * n + 4 * c) i place small (omega arith)) ∙ written-cell (in-set (t .free) n c) (in-set (t .black) n c) (in-set (t .grey) n c) (four (t .slots) (256 * n + 4 * c)) i what)
+      (λ m d l off. ap (look m d) (four-apart (t .slots) j what (256 * m + 4 * d) (λ k h e. off (omega arith) (omega arith))))
 
   -- the cell is in use, with that colour and empty slots
   pub occupies : (f b g : CellSet) (slots : List (Option Reference)) (colour : Colour) → n < length (t .free) → n < length (t .black) → n < length (t .grey) → length (t .slots) ≡ 4096
@@ -169,8 +169,8 @@ module _ (t : Table) (n c : ℕ) (near : n < 16) (low : c < 64) where
       ≡ put₂ (cells-of t) n c (used colour empty-slots)
   occupies f b g slots colour room-f room-b room-g room bare freed blacks greys =
       one-cell t _ n c (used colour empty-slots) near low
-        (same-cell (set-here (t .free) n c f false room-f freed) (set-here (t .black) n c b (shows-black colour) room-b blacks) (set-here (t .grey) n c g (shows-grey colour) room-g greys) (ap (λ s. four s (256 * n + 4 * c)) bare ∙ four-emptied (t .slots) (256 * n + 4 * c) (omega arith)) ∙ painted colour)
-        (λ m d l off. same-cell (set-there (t .free) n c f false room-f freed m d off) (set-there (t .black) n c b (shows-black colour) room-b blacks m d off) (set-there (t .grey) n c g (shows-grey colour) room-g greys m d off) (ap (λ s. four s (256 * m + 4 * d)) bare ∙ emptied-apart (t .slots) (256 * n + 4 * c) (256 * m + 4 * d) (λ i j h k e. off (omega arith) (omega arith))))
+      (same-cell (set-here (t .free) n c f false room-f freed) (set-here (t .black) n c b (shows-black colour) room-b blacks) (set-here (t .grey) n c g (shows-grey colour) room-g greys) (ap (λ s. four s (256 * n + 4 * c)) bare ∙ four-emptied (t .slots) (256 * n + 4 * c) (omega arith)) ∙ painted colour)
+      (λ m d l off. same-cell (set-there (t .free) n c f false room-f freed m d off) (set-there (t .black) n c b (shows-black colour) room-b blacks m d off) (set-there (t .grey) n c g (shows-grey colour) room-g greys m d off) (ap (λ s. four s (256 * m + 4 * d)) bare ∙ emptied-apart (t .slots) (256 * n + 4 * c) (256 * m + 4 * d) (λ i j h k e. off (omega arith) (omega arith))))
 
 -- a cell that is marked stays, and turns white
 reclaimed-cell : (f b g : Bool) (slots : Slots) → cell-of (not ((b || g) && not f)) false false slots ≡ reclaimed (cell-of f b g slots)
@@ -195,7 +195,6 @@ module _ (t : Table) (n : ℕ) (near : n < 16) (f b g marked : CellSet)
     (stay : (c : ℕ) → has marked c ≡ ((in-set (t .black) n c || in-set (t .grey) n c) && not (in-set (t .free) n c)))
     (freed : (c : ℕ) → has f c ≡ (ltb c 64 && not (has marked c)))
     (no-black : (c : ℕ) → has b c ≡ false) (no-grey : (c : ℕ) → has g c ≡ false) where
-
   at-node : (sets : List CellSet) (s : CellSet) (v : Bool) (c : ℕ) → n < length sets → has s c ≡ v → in-set (set sets n s) n c ≡ v
   at-node sets s v c room e = ap (λ x. has x c) (getD-set-same sets n s (record { word = 0 }) room) ∙ e
 
@@ -212,8 +211,8 @@ module _ (t : Table) (n : ℕ) (near : n < 16) (f b g marked : CellSet)
       here c (inl h) =
           cell-in after n c near h
           ∙ same-cell
-              (at-node (t .free) f (not ((in-set (t .black) n c || in-set (t .grey) n c) && not (in-set (t .free) n c))) c room-f (freed c ∙ ap (λ x. x && not (has marked c)) (lt-ltb c 64 h) ∙ ap not (stay c)))
-              (at-node (t .black) b false c room-b (no-black c)) (at-node (t .grey) g false c room-g (no-grey c)) refl
+          (at-node (t .free) f (not ((in-set (t .black) n c || in-set (t .grey) n c) && not (in-set (t .free) n c))) c room-f (freed c ∙ ap (λ x. x && not (has marked c)) (lt-ltb c 64 h) ∙ ap not (stay c)))
+          (at-node (t .black) b false c room-b (no-black c)) (at-node (t .grey) g false c room-g (no-grey c)) refl
           ∙ reclaimed-cell (in-set (t .free) n c) (in-set (t .black) n c) (in-set (t .grey) n c) (four (t .slots) (256 * n + 4 * c))
           ∙ ap reclaimed (sym (cell-in t n c near h))
       here c (inr h) = cell-past after n c h ∙ sym (ap reclaimed (cell-past t n c h))
@@ -221,9 +220,9 @@ module _ (t : Table) (n : ℕ) (near : n < 16) (f b g marked : CellSet)
       there : (m : ℕ) → (m ≡ n → ⊥) → (c : ℕ) → cells-of after m c ≡ cells-of t m c
       there m off c =
           ap (λ x. cond (ltb m 16 && ltb c 64) x free)
-            (same-cell (off-node (t .free) f m c off) (off-node (t .black) b m c off) (off-node (t .grey) g m c off) refl)
+          (same-cell (off-node (t .free) f m c off) (off-node (t .black) b m c off) (off-node (t .grey) g m c off) refl)
 
   pub kept-marked : total 64 (λ c. one (has marked c)) ≡ kept-count (cells-of t) n
   kept-marked =
       total-same 64 (λ c. one (has marked c)) (λ c. one (is-used (reclaimed (cells-of t n c))))
-        (λ c h. ap one (stay c ∙ kept-cell (in-set (t .free) n c) (in-set (t .black) n c) (in-set (t .grey) n c) (four (t .slots) (256 * n + 4 * c)) ∙ ap (λ x. is-used (reclaimed x)) (sym (cell-in t n c near h))))
+      (λ c h. ap one (stay c ∙ kept-cell (in-set (t .free) n c) (in-set (t .black) n c) (in-set (t .grey) n c) (four (t .slots) (256 * n + 4 * c)) ∙ ap (λ x. is-used (reclaimed x)) (sym (cell-in t n c near h))))

@@ -44,7 +44,7 @@ white-sets false false false slots = refl
 pub white-held : (t : Table) (n c : ℕ) → n < 16 → (((ltb c 64 && not (in-set (t .free) n c)) && not (in-set (t .black) n c)) && not (in-set (t .grey) n c)) ≡ is-white (cells-of t n c)
 white-held t n c near =
     by-range t n c (λ b x. (((b && not (in-set (t .free) n c)) && not (in-set (t .black) n c)) && not (in-set (t .grey) n c)) ≡ is-white x) near
-      (λ h. white-sets (in-set (t .free) n c) (in-set (t .black) n c) (in-set (t .grey) n c) (four (t .slots) (256 * n + 4 * c))) refl
+    (λ h. white-sets (in-set (t .free) n c) (in-set (t .black) n c) (in-set (t .grey) n c) (four (t .slots) (256 * n + 4 * c))) refl
 
 pub slot-of-four : (slots : List (Option Reference)) (k i : ℕ) → i < 4 → getD slots (k + i) None ≡ getD (four slots k) i None
 slot-of-four slots k zero h = ap (λ j. getD slots j None) (omega arith)

@@ -2,13 +2,10 @@
 ghost use mathlib.Core.Path.{_≡_};
 ghost use mathlib.Core.Bool.{_&&_};
 ghost use lib.Dec.{leb};
-ghost use lib.ListN.{getD};
 ghost use Rattle.model.specs.Tables.{first, or-else};
 ghost use Rattle.cell_set.specs.Sets.{has};
-ghost use Rattle.std.specs.declared.option.Option.the-variants.{None};
-ghost use Rattle.model.specs.Refusals.{Answers};
-ghost use Rattle.model.specs.Cells.{all-free, slots-of, written, shaded, blackened, change};
-ghost use Rattle.model.specs.Heaps.{node-asks, make-asks, cell-asks, slot-asks, blacken-asks, Made, Coloured, Grey-cell, Reclaimed};
+ghost use Rattle.model.specs.Cells.{all-free};
+ghost use Rattle.model.specs.Heaps.{Makes, Writes-slot, Shades, Blackens, Answers-grey, Reclaims};
 ghost use Rattle.heaps.specs.Next.{next-cells, starts, at-zero, Makes-next, Answers-lowest};
 use super::NextHeap;
 use cell_set::CellSet;
@@ -29,7 +26,7 @@ pub impl Heap for NextHeap as NextCells {
     }
 
     fn make(&mut self, node: u8, colour: Colour) -> Result<u8, Refusal>
-        ensures cells { λ r. ⌜ Answers (make-asks (next-cells (now (self .entry))) node) r (now (self .exit) ≡ now (self .entry)) (Made (next-cells (now (self .entry))) node colour (next-cells (now (self .exit)))) ⌝ }
+        ensures cells { λ r. ⌜ Makes next-cells (now (self .entry)) node colour r (now (self .exit)) ⌝ }
         ensures choice { λ r. ⌜ Makes-next (now (self .entry)) node r (now (self .exit)) ⌝ }
     {
         let free = self.table.free(node)?;
@@ -45,8 +42,14 @@ pub impl Heap for NextHeap as NextCells {
         self.table.slot(node, cell, slot)
     }
 
-    fn set_slot(&mut self, node: u8, cell: u8, slot: u8, what: Option<Reference>) -> Result<(), Refusal>
-        ensures cells { λ r. ⌜ Answers (slot-asks (next-cells (now (self .entry))) node cell slot) r (now (self .exit) ≡ now (self .entry)) (λ _. next-cells (now (self .exit)) ≡ change (written slot what) (next-cells (now (self .entry))) node cell) ⌝ }
+    fn set_slot(
+        &mut self,
+        node: u8,
+        cell: u8,
+        slot: u8,
+        what: Option<Reference>,
+    ) -> Result<(), Refusal>
+        ensures cells { λ r. ⌜ Writes-slot next-cells (now (self .entry)) node cell slot what r (now (self .exit)) ⌝ }
         ensures choice { λ _. ⌜ starts (now (self .exit)) ≡ starts (now (self .entry)) ⌝ }
     {
         self.table.set_slot(node, cell, slot, what)
@@ -57,21 +60,21 @@ pub impl Heap for NextHeap as NextCells {
     }
 
     fn shade(&mut self, node: u8, cell: u8) -> Result<(), Refusal>
-        ensures cells { λ r. ⌜ Answers (cell-asks (next-cells (now (self .entry))) node cell) r (now (self .exit) ≡ now (self .entry)) (λ _. next-cells (now (self .exit)) ≡ change shaded (next-cells (now (self .entry))) node cell) ⌝ }
+        ensures cells { λ r. ⌜ Shades next-cells (now (self .entry)) node cell r (now (self .exit)) ⌝ }
         ensures choice { λ _. ⌜ starts (now (self .exit)) ≡ starts (now (self .entry)) ⌝ }
     {
         self.table.shade(node, cell)
     }
 
     fn blacken(&mut self, node: u8, cell: u8) -> Result<(), Refusal>
-        ensures cells { λ r. ⌜ Answers (blacken-asks (next-cells (now (self .entry))) node cell) r (now (self .exit) ≡ now (self .entry)) (λ _. next-cells (now (self .exit)) ≡ change blackened (next-cells (now (self .entry))) node cell) ⌝ }
+        ensures cells { λ r. ⌜ Blackens next-cells (now (self .entry)) node cell r (now (self .exit)) ⌝ }
         ensures choice { λ _. ⌜ starts (now (self .exit)) ≡ starts (now (self .entry)) ⌝ }
     {
         self.table.blacken(node, cell)
     }
 
     fn grey(&self, node: u8) -> Result<Option<u8>, Refusal>
-        ensures cells { λ r. ⌜ Answers (node-asks node) r (Unit {0}) (Grey-cell (next-cells (now (self .entry))) node) ⌝ }
+        ensures cells { λ r. ⌜ Answers-grey next-cells (now (self .entry)) node r ⌝ }
         ensures choice { λ r. ⌜ Answers-lowest (now (self .entry)) node r ⌝ }
     {
         let grey = self.table.grey(node)?;
@@ -79,7 +82,7 @@ pub impl Heap for NextHeap as NextCells {
     }
 
     fn reclaim(&mut self, node: u8) -> Result<(u8, u8), Refusal>
-        ensures cells { λ r. ⌜ Answers (node-asks node) r (now (self .exit) ≡ now (self .entry)) (Reclaimed (next-cells (now (self .entry))) node (next-cells (now (self .exit)))) ⌝ }
+        ensures cells { λ r. ⌜ Reclaims next-cells (now (self .entry)) node r (now (self .exit)) ⌝ }
         ensures choice { λ _. ⌜ starts (now (self .exit)) ≡ starts (now (self .entry)) ⌝ }
     {
         self.table.reclaim(node)

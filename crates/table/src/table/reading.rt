@@ -1,13 +1,11 @@
 // What a table holds.
 ghost use mathlib.Core.Path.{_≡_};
 ghost use mathlib.Core.Bool.{_&&_};
-ghost use Prim.Native.Nat.{ℕ, _+_, _*_, _<_};
+ghost use Prim.Native.Nat.{ℕ, _+_, _*_};
 ghost use lib.Dec.{ltb};
-ghost use lib.ListN.{getD};
-ghost use Rattle.std.specs.declared.option.Option.the-variants.{None};
 ghost use Rattle.model.specs.Refusals.{Answers};
-ghost use Rattle.model.specs.Cells.{is-free, is-white, is-grey, slots-of};
-ghost use Rattle.model.specs.Heaps.{node-asks, cell-asks, slot-asks, Coloured};
+ghost use Rattle.model.specs.Cells.{is-free, is-white, is-grey};
+ghost use Rattle.model.specs.Heaps.{node-asks, Reads-slot, Reads-colour};
 ghost use Rattle.table.specs.Tables.{cells-of};
 ghost use Rattle.cell_set.specs.Sets.{has};
 use super::Table;
@@ -32,7 +30,12 @@ impl Table {
     {
         ask(node < 16, Refusal::NoSuchNode)?;
         let n = node as usize;
-        Ok(CellSet::all().minus(self.free[n]).minus(self.black[n]).minus(self.grey[n]))
+        Ok(
+            CellSet::all()
+                .minus(self.free[n])
+                .minus(self.black[n])
+                .minus(self.grey[n]),
+        )
     }
 
     // The node's grey cells.
@@ -45,7 +48,7 @@ impl Table {
     }
 
     pub fn colour(&self, node: u8, cell: u8) -> Result<Colour, Refusal>
-        ensures { λ r. ⌜ Answers (cell-asks (cells-of (now (self .entry))) node cell) r (Unit {0}) (Coloured (cells-of (now (self .entry)) node cell)) ⌝ }
+        ensures { λ r. ⌜ Reads-colour cells-of (now (self .entry)) node cell r ⌝ }
     {
         ask(node < 16, Refusal::NoSuchNode)?;
         let n = node as usize;
@@ -61,11 +64,14 @@ impl Table {
 
     // What a slot holds.
     pub fn slot(&self, node: u8, cell: u8, slot: u8) -> Result<Option<Reference>, Refusal>
-        ensures { λ r. ⌜ Answers (slot-asks (cells-of (now (self .entry))) node cell slot) r (Unit {0}) (λ what. what ≡ getD (slots-of (cells-of (now (self .entry)) node cell)) slot None) ⌝ }
+        ensures { λ r. ⌜ Reads-slot cells-of (now (self .entry)) node cell slot r ⌝ }
     {
         ask(node < 16, Refusal::NoSuchNode)?;
         ask(slot < 4, Refusal::NoSuchSlot)?;
-        ask(cell < 64 && !self.free[node as usize].has(cell), Refusal::NotInUse)?;
+        ask(
+            cell < 64 && !self.free[node as usize].has(cell),
+            Refusal::NotInUse,
+        )?;
         Ok(self.slots[place(node, cell, slot)])
     }
 }

@@ -1,13 +1,12 @@
 // What changes a table.
 ghost use mathlib.Core.Path.{_≡_};
 ghost use mathlib.Core.Bool.{_&&_, cond};
-ghost use Prim.Native.Nat.{ℕ, _+_, _*_, _<_};
+ghost use Prim.Native.Nat.{ℕ, _+_, _<_};
 ghost use lib.Dec.{ltb};
-ghost use Rattle.model.specs.Refusals.{Answers};
 ghost use Rattle.model.specs.Tables.{put, put₂};
-ghost use Rattle.model.specs.Cells.{all-free, empty-slots, written, shaded, blackened, change};
+ghost use Rattle.model.specs.Cells.{all-free, empty-slots};
 ghost use Rattle.model.specs.Cells.Cell.{used};
-ghost use Rattle.model.specs.Heaps.{node-asks, cell-asks, slot-asks, blacken-asks, Reclaimed};
+ghost use Rattle.model.specs.Heaps.{Writes-slot, Shades, Blackens, Reclaims};
 ghost use Rattle.table.specs.Tables.{cells-of, shows-black, shows-grey, emptied};
 ghost use Rattle.cell_set.specs.Sets.{has};
 use super::Table;
@@ -39,32 +38,47 @@ impl Table {
     }
 
     // Fills or empties a slot.
-    pub fn set_slot(&mut self, node: u8, cell: u8, slot: u8, what: Option<Reference>) -> Result<(), Refusal>
-        ensures { λ r. ⌜ Answers (slot-asks (cells-of (now (self .entry))) node cell slot) r (now (self .exit) ≡ now (self .entry)) (λ _. cells-of (now (self .exit)) ≡ change (written slot what) (cells-of (now (self .entry))) node cell) ⌝ }
+    pub fn set_slot(
+        &mut self,
+        node: u8,
+        cell: u8,
+        slot: u8,
+        what: Option<Reference>,
+    ) -> Result<(), Refusal>
+        ensures { λ r. ⌜ Writes-slot cells-of (now (self .entry)) node cell slot what r (now (self .exit)) ⌝ }
     {
         ask(node < 16, Refusal::NoSuchNode)?;
         ask(slot < 4, Refusal::NoSuchSlot)?;
-        ask(cell < 64 && !self.free[node as usize].has(cell), Refusal::NotInUse)?;
+        ask(
+            cell < 64 && !self.free[node as usize].has(cell),
+            Refusal::NotInUse,
+        )?;
         self.slots[place(node, cell, slot)] = what;
         Ok(())
     }
 
     // Turns a white cell grey, and leaves any other.
     pub fn shade(&mut self, node: u8, cell: u8) -> Result<(), Refusal>
-        ensures { λ r. ⌜ Answers (cell-asks (cells-of (now (self .entry))) node cell) r (now (self .exit) ≡ now (self .entry)) (λ _. cells-of (now (self .exit)) ≡ change shaded (cells-of (now (self .entry))) node cell) ⌝ }
+        ensures { λ r. ⌜ Shades cells-of (now (self .entry)) node cell r (now (self .exit)) ⌝ }
     {
         ask(node < 16, Refusal::NoSuchNode)?;
-        ask(cell < 64 && !self.free[node as usize].has(cell), Refusal::NotInUse)?;
+        ask(
+            cell < 64 && !self.free[node as usize].has(cell),
+            Refusal::NotInUse,
+        )?;
         self.grey[node as usize].insert(cell);
         Ok(())
     }
 
     // Turns a grey cell black.
     pub fn blacken(&mut self, node: u8, cell: u8) -> Result<(), Refusal>
-        ensures { λ r. ⌜ Answers (blacken-asks (cells-of (now (self .entry))) node cell) r (now (self .exit) ≡ now (self .entry)) (λ _. cells-of (now (self .exit)) ≡ change blackened (cells-of (now (self .entry))) node cell) ⌝ }
+        ensures { λ r. ⌜ Blackens cells-of (now (self .entry)) node cell r (now (self .exit)) ⌝ }
     {
         let grey = self.grey(node)?;
-        ask(cell < 64 && !self.free[node as usize].has(cell), Refusal::NotInUse)?;
+        ask(
+            cell < 64 && !self.free[node as usize].has(cell),
+            Refusal::NotInUse,
+        )?;
         ask(grey.has(cell), Refusal::NotGrey)?;
         self.black[node as usize].insert(cell);
         Ok(())
@@ -84,7 +98,7 @@ impl Table {
 
     // Frees the node's white cells and turns its others white; answers how many it freed and how many it kept.
     pub fn reclaim(&mut self, node: u8) -> Result<(u8, u8), Refusal>
-        ensures { λ r. ⌜ Answers (node-asks node) r (now (self .exit) ≡ now (self .entry)) (Reclaimed (cells-of (now (self .entry))) node (cells-of (now (self .exit)))) ⌝ }
+        ensures { λ r. ⌜ Reclaims cells-of (now (self .entry)) node r (now (self .exit)) ⌝ }
     {
         let white = self.white(node)?;
         let n = node as usize;

@@ -19,10 +19,9 @@ returns c =
     let near : n < 16 = search needs in
     let marked = c .minus-marked .result in
     let stay : (k : ℕ) → has marked k ≡ ((in-set (t .black) n k || in-set (t .grey) n k) && not (in-set (t .free) n k)) =
-        λ k. c .minus-marked .ensures k ∙ ap (λ b. b && not (in-set (t .free) n k)) (c .union .ensures k) in
+    λ k. c .minus-marked .ensures k ∙ ap (λ b. b && not (in-set (t .free) n k)) (c .union .ensures k) in
     let freed : (k : ℕ) → has (c .minus .result) k ≡ (ltb k 64 && not (has marked k)) =
-        λ k. c .minus .ensures k ∙ ap (λ b. b && not (has marked k)) (c .all .ensures k) in
-    (
+    λ k. c .minus .ensures k ∙ ap (λ b. b && not (has marked k)) (c .all .ensures k) in (
       search needs,
       record {
         cells = reclaims t n near (c .minus .result) (c .none .result) (c .none-2 .result) marked (omega arith) (omega arith) (omega arith) stay freed (c .none .ensures) (c .none-2 .ensures);

@@ -17,10 +17,9 @@ returns c =
     let small : c .args .slot < 4 = search needs in
     let low : c .args .cell < 64 = search needs in
     let in-use : in-set (t .free) (c .args .node) (c .args .cell) ≡ false = search needs in
-    let within : c .place .result < length (t .slots) = omega arith in
-    (
+    let within : c .place .result < length (t .slots) = omega arith in (
       search needs,
       getD-default (t .slots) (c .place .result) (c .index-self-place .result) None within
-      ∙ ap (λ k. getD (t .slots) k None) (c .place .ensures)
-      ∙ slot-held t (c .args .node) (c .args .cell) (c .args .slot) near low small in-use,
+          ∙ ap (λ k. getD (t .slots) k None) (c .place .ensures)
+          ∙ slot-held t (c .args .node) (c .args .cell) (c .args .slot) near low small in-use,
     )
