@@ -112,7 +112,7 @@ lacking-cells v w c fits =
     in-range c (λ b. (b && bit (bitAnd v (2 ^ 64 - 1 - w)) c) ≡ ((b && bit v c) && not (b && bit w c)))
     (λ h. bit-and v (2 ^ 64 - 1 - w) c ∙ ap (λ b. bit v c && b) (bit-not w c fits h)) (λ h. refl)
 
--- one cell more, one cell fewer, and a number that is no cell's
+-- one cell more, one cell fewer
 pub with-cell : (w k c : ℕ) → k < 64 → (ltb c 64 && bit (bitOr w (2 ^ k)) c) ≡ put (λ d. ltb d 64 && bit w d) k true c
 with-cell w k c h =
     put-elim (λ d b. (ltb d 64 && bit (bitOr w (2 ^ k)) d) ≡ b) (λ d. ltb d 64 && bit w d) k true c
@@ -127,10 +127,6 @@ without-cell w k c h =
   where
     lacking : (d : ℕ) → (ltb d 64 && bit (bitAnd w (2 ^ 64 - 1 - 2 ^ k)) d) ≡ ((ltb d 64 && bit w d) && not (ltb d 64 && eqb d k))
     lacking d = lacking-cells w (2 ^ k) d (pow-below k 64 h) ∙ ap (λ b. (ltb d 64 && bit w d) && not (ltb d 64 && b)) (bit-pow k d)
-
-pub no-cell : (w k c : ℕ) → 64 ≤ k → (ltb c 64 && bit w c) ≡ put (λ d. ltb d 64 && bit w d) k false c
-no-cell w k c h =
-    put-elim (λ d b. (ltb d 64 && bit w d) ≡ b) (λ d. ltb d 64 && bit w d) k false c (and-left (ltb k 64) (bit w k) (le-ltb k 64 h)) (λ off. refl)
 
 pub count-cells : (w : ℕ) → w < 2 ^ 64 → ones w ≡ total 64 (λ c. one (ltb c 64 && bit w c))
 count-cells w fits =

@@ -9,5 +9,9 @@ use Rattle.cell_set.specs.declared.set.CellSet.{CellSet}
 abbrev pub bit : ℕ → ℕ → Bool
 bit w k = eqb (w / 2 ^ k % 2) 1
 
+-- cell c is in the set that a word stands for
+abbrev pub in-word : ℕ → ℕ → Bool
+in-word w c = ltb c 64 && bit w c
+
 abbrev pub has : CellSet → ℕ → Bool
-has set c = ltb c 64 && bit (set .word) c
+has set c = in-word (set .word) c

@@ -5,6 +5,7 @@ ghost use Prim.Native.Nat.{ℕ};
 ghost use lib.Dec.{ltb, leb};
 ghost use Rattle.model.specs.Tables.{put, one, total, first};
 ghost use Rattle.cell_set.specs.Sets.{has};
+use crate::word;
 
 #[derive(Clone, Copy)]
 pub struct CellSet {
@@ -23,13 +24,13 @@ impl CellSet {
     pub fn all() -> CellSet
         ensures { λ r. ⌜ ((c : ℕ) → has r c ≡ ltb c 64) ⌝ }
     {
-        CellSet { word: u64::MAX }
+        CellSet { word: word::full() }
     }
 
     pub fn has(self, cell: u8) -> bool
         ensures { λ r. ⌜ r ≡ has self cell ⌝ }
     {
-        cell < 64 && self.word >> cell & 1 == 1
+        cell < 64 && word::bit(self.word, cell)
     }
 
     // A number that is no cell's changes nothing.
@@ -37,7 +38,7 @@ impl CellSet {
         ensures { λ _. ⌜ ((c : ℕ) → has (now (self .exit)) c ≡ put (has (now (self .entry))) cell (ltb cell 64) c) ⌝ }
     {
         if cell < 64 {
-            self.word |= 1 << cell;
+            self.word = word::with(self.word, cell);
         }
     }
 
@@ -45,7 +46,7 @@ impl CellSet {
         ensures { λ _. ⌜ ((c : ℕ) → has (now (self .exit)) c ≡ put (has (now (self .entry))) cell false c) ⌝ }
     {
         if cell < 64 {
-            self.word &= !(1 << cell);
+            self.word = word::without(self.word, cell);
         }
     }
 
@@ -54,7 +55,7 @@ impl CellSet {
         ensures { λ r. ⌜ ((c : ℕ) → has r c ≡ (has self c || has other c)) ⌝ }
     {
         CellSet {
-            word: self.word | other.word,
+            word: word::either(self.word, other.word),
         }
     }
 
@@ -63,15 +64,22 @@ impl CellSet {
         ensures { λ r. ⌜ ((c : ℕ) → has r c ≡ (has self c && not (has other c))) ⌝ }
     {
         CellSet {
-            word: self.word & !other.word,
+            word: word::lacking(self.word, other.word),
         }
+    }
+
+    // The cells that it lacks.
+    pub fn others(self) -> CellSet
+        ensures { λ r. ⌜ ((c : ℕ) → has r c ≡ (ltb c 64 && not (has self c))) ⌝ }
+    {
+        CellSet::all().minus(self)
     }
 
     // How many cells it has.
     pub fn count(self) -> u8
         ensures { λ r. ⌜ r ≡ total 64 (λ c. one (has self c)) ⌝ }
     {
-        self.word.count_ones() as u8
+        word::ones(self.word)
     }
 
     // Its lowest cell.
@@ -85,14 +93,6 @@ impl CellSet {
     pub fn lowest_from(self, from: u8) -> Option<u8>
         ensures { λ r. ⌜ r ≡ first 64 (λ c. leb from c && has self c) ⌝ }
     {
-        if from >= 64 {
-            return None;
-        }
-        let above = self.word >> from;
-        if above == 0 {
-            None
-        } else {
-            Some(from + above.trailing_zeros() as u8)
-        }
+        word::lowest_from(self.word, from)
     }
 }

@@ -2,20 +2,19 @@
 use mathlib.Core.Path.{_≡_, refl, sym, ap, ap₂, _∙_}
 use mathlib.Core.Bool.{Bool, true, false, _&&_}
 use Prim.Native.Nat.{ℕ, _<_}
-use native.Mathlib.Omega.{arith}
 use lib.Dec.{ltb, leb}
 use Rattle.std.specs.declared.option.Option.{Option}
 use Rattle.std.specs.declared.option.Option.the-variants.{Some, None}
 use Rattle.std.proofs.shelf.Tests.{lt-ltb, and-parts, false≢true}
 use Rattle.model.specs.Tables.{first, or-else, is-some}
-use Rattle.model.specs.Cells.{Cell, is-free, is-grey}
+use Rattle.model.specs.Cells.{Cell, Cells, is-free, is-grey}
 use Rattle.model.specs.Cells.Cell.{free, used}
 use Rattle.model.proofs.Firsts.{Found, first-same, first-found}
 use Rattle.cell_set.specs.Sets.{has}
 use Rattle.cell_set.specs.declared.set.CellSet.{CellSet}
-use Rattle.heaps.specs.Next.{next-free, lowest-grey}
+use Rattle.heaps.specs.Next.{next-free, lowest-grey, Free-cell}
 
-pub is-free-free : (x : Cell) → is-free x ≡ true → x ≡ free
+is-free-free : (x : Cell) → is-free x ≡ true → x ≡ free
 is-free-free free e = refl
 is-free-free (used colour slots) e = absurd (false≢true e)
 
@@ -34,28 +33,22 @@ module _ (row : ℕ → Cell) (set : CellSet) (frees : (c : ℕ) → has set c �
   pub chosen : (start : ℕ) → or-else (first 64 (λ c. leb start c && has set c)) (first 64 (has set)) ≡ next-free row start
   chosen start = ap₂ or-else (frees-from start) all-frees
 
--- a chosen cell is free
-pub next-is-free : (row : ℕ → Cell) (start c : ℕ) → next-free row start ≡ Some c → (c < 64) × (row c ≡ free)
-next-is-free row start c =
-    go (first 64 (λ k. leb start k && is-free (row k))) (first 64 (λ k. is-free (row k))) (first-found 64 (λ k. leb start k && is-free (row k))) (first-found 64 (λ k. is-free (row k)))
-  where
-    is : (k : ℕ) → k ≡ c → k < 64 → is-free (row k) ≡ true → (c < 64) × (row c ≡ free)
-    is k e low frees = (omega arith, ap row (sym e) ∙ is-free-free (row k) frees)
+-- what is chosen where p is the lowest free cell
+abbrev One-of : (ℕ → Cell) → Option ℕ → Option ℕ → Type 0
+One-of row p None = is-some p ≡ false
+One-of row p (Some c) = (is-some p ≡ true) × (c < 64) × (row c ≡ free)
 
-    go : (o p : Option ℕ) → Found 64 (λ k. leb start k && is-free (row k)) o → Found 64 (λ k. is-free (row k)) p → or-else o p ≡ Some c → (c < 64) × (row c ≡ free)
-    go (Some k) p found any e = is k (cc) (found .0) (and-parts (leb start k) (is-free (row k)) (found .1) .1)
-    go None (Some k) none any e = is k (cc) (any .0) (any .1)
-    go None None none any e = let never : _≡_ {A = ℕ} 0 1 = cc in absurd (omega arith)
-
--- none is chosen where none is free, and one is where one is free
-pub is-some-next : (row : ℕ → Cell) (start : ℕ) → is-some (next-free row start) ≡ is-some (first 64 (λ c. is-free (row c)))
-is-some-next row start =
-    go (first 64 (λ k. leb start k && is-free (row k))) (first 64 (λ k. is-free (row k))) (first-found 64 (λ k. leb start k && is-free (row k))) (first-found 64 (λ k. is-free (row k)))
+-- a chosen cell is free, and none is chosen only where none is free
+pub next-is-free : (cells : Cells) (n start : ℕ) → Free-cell cells n (next-free (cells n) start)
+next-is-free cells n start =
+    go (first 64 (λ k. leb start k && is-free (cells n k))) (first 64 (λ k. is-free (cells n k))) (first-found 64 (λ k. leb start k && is-free (cells n k))) (first-found 64 (λ k. is-free (cells n k)))
   where
-    go : (o p : Option ℕ) → Found 64 (λ k. leb start k && is-free (row k)) o → Found 64 (λ k. is-free (row k)) p → is-some (or-else o p) ≡ is-some p
-    go None p none any = refl
-    go (Some k) (Some j) found any = refl
-    go (Some k) None found none = absurd (false≢true (sym (none k (found .0)) ∙ and-parts (leb start k) (is-free (row k)) (found .1) .1))
+    go : (o p : Option ℕ) → Found 64 (λ k. leb start k && is-free (cells n k)) o → Found 64 (λ k. is-free (cells n k)) p → One-of (cells n) p (or-else o p)
+    go None None none never = refl
+    go None (Some k) none any = (refl, any .0, is-free-free (cells n k) (any .1))
+    go (Some k) (Some j) found any = (refl, found .0, is-free-free (cells n k) (and-parts (leb start k) (is-free (cells n k)) (found .1) .1))
+    go (Some k) None found never =
+        absurd (false≢true (sym (never k (found .0)) ∙ and-parts (leb start k) (is-free (cells n k)) (found .1) .1))
 
 -- the lowest cell of the set of the grey ones
 pub lowest-is-grey : (row : ℕ → Cell) (set : CellSet) → ((c : ℕ) → has set c ≡ is-grey (row c)) → first 64 (has set) ≡ lowest-grey row

@@ -1,8 +1,8 @@
 -- The choices of a heap that goes round: each node has a cell to start from, and the next free cell is made.
 -- Of grey cells the lowest is answered.
 use mathlib.Core.Path.{_≡_}
-use mathlib.Core.Bool.{Bool, _&&_}
-use Prim.Native.Nat.{ℕ, _+_}
+use mathlib.Core.Bool.{true, false, _&&_}
+use Prim.Native.Nat.{ℕ, _+_, _<_}
 use lib.Dec.{leb}
 use lib.ListN.{getD}
 use Rattle.std.specs.declared.option.Option.{Option}
@@ -11,6 +11,8 @@ use Rattle.std.specs.declared.result.Result.{Result}
 use Rattle.std.specs.declared.result.Result.the-variants.{Ok, Err}
 use Rattle.model.specs.Tables.{put, first, or-else}
 use Rattle.model.specs.Cells.{Cell, Cells, is-free, is-grey}
+use Rattle.model.specs.Cells.Cell.{free}
+use Rattle.model.specs.Heaps.{some-free}
 use Rattle.model.specs.declared.refusal.Refusal.{Refusal}
 use Rattle.table.specs.Tables.{cells-of}
 use Rattle.heaps.specs.declared.next.NextHeap.{NextHeap}
@@ -31,6 +33,11 @@ next-free row start = or-else (first 64 (λ c. leb start c && is-free (row c))) 
 
 abbrev pub lowest-grey : (ℕ → Cell) → Option ℕ
 lowest-grey row = first 64 (λ c. is-grey (row c))
+
+-- some free cell of node n, or none exactly where it has none
+abbrev pub Free-cell : Cells → ℕ → Option ℕ → Type 0
+Free-cell cells n None = some-free cells n ≡ false
+Free-cell cells n (Some c) = (some-free cells n ≡ true) × (c < 64) × (cells n c ≡ free)
 
 -- the cell that is made, and where the node starts then
 abbrev pub Makes-next : NextHeap → ℕ → Result ℕ Refusal → NextHeap → Type 0

@@ -10,5 +10,6 @@ pub struct NextHeap {
 
 mod calls;
 mod cells;
+mod choices;
 
 pub use cells::NextCells;

@@ -1,12 +1,9 @@
 -- A table that is another with one value changed.
-use mathlib.Core.Path.{_≡_, refl, sym, ap, ap₂, subst, _∙_, fun-ext}
+use mathlib.Core.Path.{_≡_, refl, sym, ap, subst, fun-ext}
 use mathlib.Core.Bool.{cond}
 use mathlib.Core.Logic.{_⊎_, inl, inr}
-use mathlib.Core.List.{List}
-use Prim.Native.Nat.{ℕ, _<_}
+use Prim.Native.Nat.{ℕ}
 use lib.Dec.{eqb}
-use lib.ListN.{length, getD, set}
-use Rattle.std.proofs.shelf.Lists.{getD-set-same, getD-set-other}
 use Rattle.std.proofs.shelf.Tests.{cases-eq, eq-eqb, ne-eqb}
 use Rattle.model.specs.Tables.{put, put₂}
 
@@ -31,7 +28,3 @@ is-put f g n v here there = fun-ext (λ k. put-elim (λ m x. g m ≡ x) f n v k 
 pub is-put₂ : {X : Type 0} (f g : ℕ → ℕ → X) (n i : ℕ) (v : X) → g n i ≡ v → ((m k : ℕ) → (m ≡ n → k ≡ i → ⊥) → g m k ≡ f m k) → g ≡ put₂ f n i v
 is-put₂ f g n i v here there =
     is-put f g n (put (f n) i v) (is-put (f n) (g n) i v here (λ k off. there n k (λ _ e. off e))) (λ m off. fun-ext (λ k. there m k (λ e _. off e)))
-
--- one place of a list written
-pub set-put : {X : Type 0} (xs : List X) (n : ℕ) (v d : X) → n < length xs → (λ k. getD (set xs n v) k d) ≡ put (λ k. getD xs k d) n v
-set-put xs n v d room = is-put (λ k. getD xs k d) (λ k. getD (set xs n v) k d) n v (getD-set-same xs n v d room) (λ k off. getD-set-other xs n k v d off)

@@ -18,7 +18,6 @@ use Rattle.model.specs.declared.colour.Colour.{Colour}
 use Rattle.model.specs.declared.colour.Colour.the-variants.{White, Grey, Black}
 use Rattle.model.specs.declared.reference.Reference.{Reference}
 use Rattle.model.proofs.Puts.{put-here, put-there, is-put, is-put₂}
-use Rattle.model.proofs.Totals.{total-same}
 use Rattle.cell_set.specs.Sets.{has}
 use Rattle.cell_set.specs.declared.set.CellSet.{CellSet}
 use Rattle.table.specs.Tables.{in-set, four, cell-of, cells-of, shows-black, shows-grey, emptied}
@@ -222,7 +221,7 @@ module _ (t : Table) (n : ℕ) (near : n < 16) (f b g marked : CellSet)
           ap (λ x. cond (ltb m 16 && ltb c 64) x free)
           (same-cell (off-node (t .free) f m c off) (off-node (t .black) b m c off) (off-node (t .grey) g m c off) refl)
 
-  pub kept-marked : total 64 (λ c. one (has marked c)) ≡ kept-count (cells-of t) n
-  kept-marked =
-      total-same 64 (λ c. one (has marked c)) (λ c. one (is-used (reclaimed (cells-of t n c))))
-      (λ c h. ap one (stay c ∙ kept-cell (in-set (t .free) n c) (in-set (t .black) n c) (in-set (t .grey) n c) (four (t .slots) (256 * n + 4 * c)) ∙ ap (λ x. is-used (reclaimed x)) (sym (cell-in t n c near h))))
+  pub stays-used : (c : ℕ) → c < 64 → has marked c ≡ is-used (reclaimed (cells-of t n c))
+  stays-used c h =
+      stay c ∙ kept-cell (in-set (t .free) n c) (in-set (t .black) n c) (in-set (t .grey) n c) (four (t .slots) (256 * n + 4 * c))
+      ∙ ap (λ x. is-used (reclaimed x)) (sym (cell-in t n c near h))

@@ -1,6 +1,6 @@
 -- What the sets and slots of a table say of a cell.
-use mathlib.Core.Path.{_≡_, refl, sym, ap, ap₂, subst, _∙_}
-use mathlib.Core.Bool.{Bool, true, false, cond, _&&_, not}
+use mathlib.Core.Path.{_≡_, refl, sym, ap, subst}
+use mathlib.Core.Bool.{Bool, true, false, cond, _&&_}
 use mathlib.Core.List.{List}
 use mathlib.Core.Logic.{_⊎_, inl, inr}
 use Prim.Native.Nat.{ℕ, zero, suc, _+_, _*_, _≤_, _<_}
@@ -10,8 +10,8 @@ use lib.ListN.{length, getD}
 use Rattle.std.specs.declared.option.Option.{Option}
 use Rattle.std.specs.declared.option.Option.the-variants.{None}
 use Rattle.std.proofs.shelf.Tests.{cases-lt, lt-ltb, le-ltb, and-from, and-right, false≢true}
-use Rattle.model.specs.Cells.{Cell, Slots, is-used, is-white, slots-of}
-use Rattle.model.specs.Cells.Cell.{free, used}
+use Rattle.model.specs.Cells.{Cell, is-used, slots-of}
+use Rattle.model.specs.Cells.Cell.{free}
 use Rattle.model.specs.declared.reference.Reference.{Reference}
 use Rattle.table.specs.Tables.{in-set, four, cell-of, cells-of}
 use Rattle.table.specs.declared.table.Table.{Table}
@@ -34,30 +34,12 @@ by-range t n c P near within past = go (cases-lt c 64)
     go (inl h) = subst (λ b. P b (cells-of t n c)) (sym (lt-ltb c 64 h)) (subst (P true) (sym (cell-in t n c near h)) (within h))
     go (inr h) = subst (λ b. P b (cells-of t n c)) (sym (le-ltb c 64 h)) (subst (P false) (sym (cell-past t n c h)) past)
 
--- white is in none of the sets
-white-sets : (f b g : Bool) (slots : Slots) → ((not f && not b) && not g) ≡ is-white (cell-of f b g slots)
-white-sets true b g slots = refl
-white-sets false true g slots = refl
-white-sets false false true slots = refl
-white-sets false false false slots = refl
-
-pub white-held : (t : Table) (n c : ℕ) → n < 16 → (((ltb c 64 && not (in-set (t .free) n c)) && not (in-set (t .black) n c)) && not (in-set (t .grey) n c)) ≡ is-white (cells-of t n c)
-white-held t n c near =
-    by-range t n c (λ b x. (((b && not (in-set (t .free) n c)) && not (in-set (t .black) n c)) && not (in-set (t .grey) n c)) ≡ is-white x) near
-    (λ h. white-sets (in-set (t .free) n c) (in-set (t .black) n c) (in-set (t .grey) n c) (four (t .slots) (256 * n + 4 * c))) refl
-
 pub slot-of-four : (slots : List (Option Reference)) (k i : ℕ) → i < 4 → getD slots (k + i) None ≡ getD (four slots k) i None
 slot-of-four slots k zero h = ap (λ j. getD slots j None) (omega arith)
 slot-of-four slots k (suc zero) h = refl
 slot-of-four slots k (suc (suc zero)) h = refl
 slot-of-four slots k (suc (suc (suc zero))) h = refl
 slot-of-four slots k (suc (suc (suc (suc i)))) h = absurd (omega arith)
-
--- what slot i of a cell in use holds
-pub slot-held : (t : Table) (n c i : ℕ) → n < 16 → c < 64 → i < 4 → in-set (t .free) n c ≡ false → getD (t .slots) (256 * n + 4 * c + i) None ≡ getD (slots-of (cells-of t n c)) i None
-slot-held t n c i near low small in-use =
-    slot-of-four (t .slots) (256 * n + 4 * c) i small
-    ∙ ap (λ x. getD (slots-of x) i None) (sym (cell-in t n c near low ∙ ap (λ f. cell-of f (in-set (t .black) n c) (in-set (t .grey) n c) (four (t .slots) (256 * n + 4 * c))) in-use))
 
 -- a cell in use has four slots
 pub four-slots : (t : Table) (n c : ℕ) → is-used (cells-of t n c) ≡ true → length (slots-of (cells-of t n c)) ≡ 4

@@ -1,4 +1,5 @@
 // A cell is free, or black, or grey, or white: it is what the first of these sets says that has it, and white where none has.
+mod changing;
 mod reading;
 mod writing;
 

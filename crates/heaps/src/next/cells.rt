@@ -1,18 +1,14 @@
 // The heap's meaning, and its choices.
 ghost use mathlib.Core.Path.{_≡_};
-ghost use mathlib.Core.Bool.{_&&_};
-ghost use lib.Dec.{leb};
-ghost use Rattle.model.specs.Tables.{first, or-else};
-ghost use Rattle.cell_set.specs.Sets.{has};
 ghost use Rattle.model.specs.Cells.{all-free};
 ghost use Rattle.model.specs.Heaps.{Makes, Writes-slot, Shades, Blackens, Answers-grey, Reclaims};
 ghost use Rattle.heaps.specs.Next.{next-cells, starts, at-zero, Makes-next, Answers-lowest};
 use super::NextHeap;
-use cell_set::CellSet;
 use model::Colour;
 use model::Heap;
 use model::Reference;
 use model::Refusal;
+use model::ask;
 
 pub impl Heap for NextHeap as NextCells {
     ghost cells = { next-cells };
@@ -29,12 +25,11 @@ pub impl Heap for NextHeap as NextCells {
         ensures cells { λ r. ⌜ Makes next-cells (now (self .entry)) node colour r (now (self .exit)) ⌝ }
         ensures choice { λ r. ⌜ Makes-next (now (self .entry)) node r (now (self .exit)) ⌝ }
     {
-        let free = self.table.free(node)?;
-        let Some(cell) = from_start(free, self.start[node as usize]) else {
+        ask(node < 16, Refusal::NoSuchNode)?;
+        let Some(cell) = self.choose(node) else {
             return Err(Refusal::NoFreeCell);
         };
-        self.table.occupy(node, cell, colour);
-        self.start[node as usize] = cell + 1;
+        self.take(node, cell, colour);
         Ok(cell)
     }
 
@@ -77,8 +72,8 @@ pub impl Heap for NextHeap as NextCells {
         ensures cells { λ r. ⌜ Answers-grey next-cells (now (self .entry)) node r ⌝ }
         ensures choice { λ r. ⌜ Answers-lowest (now (self .entry)) node r ⌝ }
     {
-        let grey = self.table.grey(node)?;
-        Ok(grey.lowest())
+        ask(node < 16, Refusal::NoSuchNode)?;
+        Ok(self.lowest_grey(node))
     }
 
     fn reclaim(&mut self, node: u8) -> Result<(u8, u8), Refusal>
@@ -86,15 +81,5 @@ pub impl Heap for NextHeap as NextCells {
         ensures choice { λ _. ⌜ starts (now (self .exit)) ≡ starts (now (self .entry)) ⌝ }
     {
         self.table.reclaim(node)
-    }
-}
-
-// The first cell of the set from `start` on, going round.
-fn from_start(free: CellSet, start: u8) -> Option<u8>
-    ensures { λ r. ⌜ r ≡ or-else (first 64 (λ c. leb start c && has free c)) (first 64 (has free)) ⌝ }
-{
-    match free.lowest_from(start) {
-        Some(cell) => Some(cell),
-        None => free.lowest(),
     }
 }

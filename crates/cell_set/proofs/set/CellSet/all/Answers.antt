@@ -1,5 +1,0 @@
-use Rattle.cell_set.proofs.Sets.{all-cells}
-use Rattle.cell_set.proofs.set.CellSet.all.Needs as need
-
-pub returns : need.returns
-returns c = all-cells
