@@ -2,10 +2,9 @@
 -- There are 16 nodes of 64 cells.
 use mathlib.Core.Path.{_≡_}
 use mathlib.Core.Bool.{_&&_}
-use mathlib.Core.List.{List, [], _∷_, _++_}
+use mathlib.Core.List.{[], _∷_}
 use Prim.Native.Nat.{ℕ}
 use lib.Dec.{ltb}
-use Rattle.std.specs.Written.{decimal}
 use Rattle.model.specs.Refusals.{Questions}
 use Rattle.model.specs.declared.reference.Reference.{Reference}
 
@@ -14,7 +13,3 @@ reference-asks node cell = (24, (ltb node 16 && ltb cell 64)) ∷ []
 
 abbrev pub Names : ℕ → ℕ → Reference → Type 0
 Names node cell x = (x .node ≡ node) × (x .cell ≡ cell)
-
--- node, colon, cell
-abbrev pub written-form : Reference → List ℕ
-written-form x = decimal (x .node) ++ (58 ∷ decimal (x .cell))

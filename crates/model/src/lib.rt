@@ -11,3 +11,5 @@ pub use reference::Reference;
 pub use refusal::Refusal;
 pub use refusal::ask;
 pub use written::ReferenceDisplay;
+pub use written::RefusalDisplay;
+pub use written::RefusalError;
