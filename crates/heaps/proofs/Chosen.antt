@@ -8,15 +8,12 @@ use Rattle.std.specs.declared.option.Option.the-variants.{Some, None}
 use Rattle.std.proofs.shelf.Tests.{lt-ltb, and-parts, false≢true}
 use Rattle.model.specs.Tables.{first, or-else, is-some}
 use Rattle.model.specs.Cells.{Cell, Cells, is-free, is-grey}
-use Rattle.model.specs.Cells.Cell.{free, used}
+use Rattle.model.specs.Cells.Cell.{free}
 use Rattle.model.proofs.Firsts.{Found, first-same, first-found}
 use Rattle.cell_set.specs.Sets.{has}
 use Rattle.cell_set.specs.declared.set.CellSet.{CellSet}
+use Rattle.heaps.proofs.Changes.{from-free}
 use Rattle.heaps.specs.Next.{next-free, lowest-grey, Free-cell}
-
-is-free-free : (x : Cell) → is-free x ≡ true → x ≡ free
-is-free-free free e = refl
-is-free-free (used colour slots) e = absurd (false≢true e)
 
 -- the set has the free cells of the row
 module _ (row : ℕ → Cell) (set : CellSet) (frees : (c : ℕ) → has set c ≡ (ltb c 64 && is-free (row c))) where
@@ -45,8 +42,8 @@ next-is-free cells n start =
   where
     go : (o p : Option ℕ) → Found 64 (λ k. leb start k && is-free (cells n k)) o → Found 64 (λ k. is-free (cells n k)) p → One-of (cells n) p (or-else o p)
     go None None none never = refl
-    go None (Some k) none any = (refl, any .0, is-free-free (cells n k) (any .1))
-    go (Some k) (Some j) found any = (refl, found .0, is-free-free (cells n k) (and-parts (leb start k) (is-free (cells n k)) (found .1) .1))
+    go None (Some k) none any = (refl, any .0, from-free (cells n k) (any .1))
+    go (Some k) (Some j) found any = (refl, found .0, from-free (cells n k) (and-parts (leb start k) (is-free (cells n k)) (found .1) .1))
     go (Some k) None found never =
         absurd (false≢true (sym (never k (found .0)) ∙ and-parts (leb start k) (is-free (cells n k)) (found .1) .1))
 

@@ -1,1 +1,7 @@
 mod Chosen
+mod Changes
+mod Ranges
+mod Replaced
+mod Stacked
+mod Making
+mod Same

@@ -1,1 +1,3 @@
 pub mod Next
+pub mod Stacks
+pub mod Last
