@@ -1,6 +1,8 @@
 // Values that are known of the parts, in one list.
 mod filling;
+mod freeing;
 mod outcome;
+mod values;
 
-pub use filling::make_after;
 pub use outcome::Outcome;
+pub use values::known_values;
