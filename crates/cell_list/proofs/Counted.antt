@@ -12,7 +12,8 @@ use Rattle.std.proofs.shelf.Sums.{sumBy-cons, sumBy-push, sumBy-append}
 use Rattle.std.proofs.shelf.Tests.{eq-eqb, ne-eqb, le-ltb, and-left, and-right, cases-lt}
 use Rattle.std.proofs.shelf.Ways.{tells}
 use Rattle.model.specs.Tables.{one, put, total}
-use Rattle.cell_list.specs.Lists.{times, Once, without}
+use Rattle.cell_list.specs.Lists.{listed, times, Once, without, Pushed}
+use Rattle.cell_list.specs.declared.list.CellList.{CellList}
 use Rattle.model.proofs.Totals.{total-all, total-bound, total-change, total-lt}
 
 times-cons : (d x : ℕ) (xs : List ℕ) → times d (x ∷ xs) ≡ one (eqb x d) + times d xs
@@ -85,3 +86,8 @@ module _ (n : ℕ) (xs : List ℕ) (p : ℕ → Bool) (once : Once (λ c. ltb c 
   room c l fails =
       let absent : times c xs ≡ 0 = once c ∙ ap one (and-right _ _ fails) in
       omega (arith, counted, total-lt n (λ k. times k xs) (λ k. 1) c l at-most-once (omega arith), total-all n 1)
+
+-- where there is room, what is pushed is added
+pub pushed : (before after : CellList) (c : ℕ) (r : Bool) → length (listed before) < 64 → Pushed before c r after → listed after ≡ listed before ++ (c ∷ [])
+pushed before after c true roomy (_, more) = more
+pushed before after c false roomy (full, _) = absurd (omega arith)

@@ -17,7 +17,13 @@ pub fn make<H: Heap>(rt: &LibcRuntime, heap: &mut H, what: &str) -> Result<Refer
     Ok(made)
 }
 
-pub fn link<H: Heap>(rt: &LibcRuntime, heap: &mut H, from: Reference, slot: u8, to: Reference) -> Result<(), AnyError> {
+pub fn link<H: Heap>(
+    rt: &LibcRuntime,
+    heap: &mut H,
+    from: Reference,
+    slot: u8,
+    to: Reference,
+) -> Result<(), AnyError> {
     heap.set_slot(HOST, from.cell(), slot, Some(to))?;
     println!(rt, "  slot {slot} of {from} names {to}")?;
     Ok(())

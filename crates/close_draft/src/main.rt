@@ -2,10 +2,10 @@
 mod books;
 mod story;
 
-use heaps::LastCells;
-use heaps::LastHeap;
-use heaps::NextCells;
-use heaps::NextHeap;
+use last_heap::LastCells;
+use last_heap::LastHeap;
+use next_heap::NextCells;
+use next_heap::NextHeap;
 use std::error::AnyError;
 
 fn main(rt: LibcRuntime) -> Result<(), AnyError> {
@@ -13,8 +13,14 @@ fn main(rt: LibcRuntime) -> Result<(), AnyError> {
 }
 
 fn tell(rt: &LibcRuntime) -> Result<(), AnyError> {
-    println!(rt, "One host closes a draft. Its heap makes the next free cell, going round.\n")?;
+    println!(
+        rt,
+        "One host closes a draft. Its heap makes the next free cell, going round.\n"
+    )?;
     story::close_draft(rt, &mut NextHeap::new())?;
-    println!(rt, "\nThe same on a heap that makes the cell that was freed last.\n")?;
+    println!(
+        rt,
+        "\nThe same on a heap that makes the cell that was freed last.\n"
+    )?;
     story::close_draft(rt, &mut LastHeap::new())
 }

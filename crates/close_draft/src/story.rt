@@ -62,7 +62,11 @@ fn reclaim<H: Heap>(rt: &LibcRuntime, heap: &mut H) -> Result<(), AnyError> {
 }
 
 // Those of the first list that the second lacks.
-fn missing(rt: &LibcRuntime, first: &[Reference], second: &[Reference]) -> Result<Vec<Reference>, AnyError> {
+fn missing(
+    rt: &LibcRuntime,
+    first: &[Reference],
+    second: &[Reference],
+) -> Result<Vec<Reference>, AnyError> {
     let mut gone = Vec::new(rt.alloc());
     for reference in first {
         if !second.contains(reference) {

@@ -62,7 +62,7 @@ one-more cells before n colour (Ok c) after (asked, made) near =
     let here : one (is-used (cells after n c)) ≡ 1 = ap (λ f. one (is-used (f c))) row ∙ ap (λ x. one (is-used x)) (put-here (cells before n) c (used colour empty-slots)) in
     let was : one (is-used (cells before n c)) ≡ 0 = ap (λ x. one (is-used x)) (made .was-free) in
     let there = total-change 64 (λ k. one (is-used (cells before n k))) (λ k. one (is-used (cells after n k))) c (made .low)
-        (λ k off. ap (λ f. one (is-used (f k))) row ∙ ap (λ x. one (is-used x)) (put-there (cells before n) c (used colour empty-slots) k off)) in
+    (λ k off. ap (λ f. one (is-used (f k))) row ∙ ap (λ x. one (is-used x)) (put-there (cells before n) c (used colour empty-slots) k off)) in
     omega (arith, at-most-64 (cells after) n)
 one-more cells before n colour (Err why) after (asked, stays) near =
     let same : used-count (cells after) n ≡ used-count (cells before) n = ap (λ s. used-count (cells s) n) stays in

@@ -17,9 +17,9 @@ use Rattle.model.specs.declared.colour.Colour.{Colour}
 use Rattle.model.specs.declared.colour.Colour.the-variants.{White}
 use Rattle.model.specs.declared.refusal.Refusal.{Refusal}
 use Rattle.model.proofs.Puts.{put-here}
-use Rattle.heaps.specs.Last.{last-cells, frees, all-cells, freed-cells, Makes-last, Reclaims-last}
-use Rattle.heaps.specs.Stacks.{at-nodes, falling, rising}
-use Rattle.heaps.specs.declared.last.LastHeap.{LastHeap}
+use Rattle.last_heap.specs.Last.{last-cells, frees, all-cells, freed-cells, Makes-last, Reclaims-last}
+use Rattle.last_heap.specs.Stacks.{at-nodes, falling, rising}
+use Rattle.last_heap.specs.declared.heap.LastHeap.{LastHeap}
 
 -- what is known after a call at node n: its answer, the cells, and the stack of free cells
 pub record After {X : Type 0} (r answer : X) (heap : LastHeap) (n : ℕ) (now : Cells) (stack : List ℕ) : Type 0 where
@@ -59,7 +59,6 @@ module _ (heap once twice swept again : LastHeap) (r s t : Result ℕ Refusal) (
     (make-2 : Makes last-cells once 0 White s twice) (choice-2 : Makes-last once 0 White s twice)
     (sweep : Reclaims last-cells twice 0 counts swept) (choice-3 : Reclaims-last twice 0 counts swept)
     (make-3 : Makes last-cells swept 0 White t again) (choice-4 : Makes-last swept 0 White t again) where
-
   pub higher-first : t ≡ Ok 1
   unfolding falling rising first
   higher-first =

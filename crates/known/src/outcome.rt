@@ -1,5 +1,5 @@
 // What came of a call.
-#[derive(Clone, Copy, PartialEq, Eq)]
+#[derive(Clone, Copy)]
 pub enum Outcome {
     Granted,
     Made(u8),

@@ -4,10 +4,10 @@ ghost use Rattle.known.specs.Known.{known-outcomes};
 use crate::filling::make_after;
 use crate::freeing::make_after_reclaim;
 use crate::outcome::Outcome;
-use heaps::LastCells;
-use heaps::LastHeap;
-use heaps::NextCells;
-use heaps::NextHeap;
+use last_heap::LastCells;
+use last_heap::LastHeap;
+use next_heap::NextCells;
+use next_heap::NextHeap;
 
 pub fn known_values() -> [Outcome; 5]
     ensures { λ r. ⌜ r ≡ known-outcomes ⌝ }

@@ -1,3 +1,4 @@
 pub mod Puts
 pub mod Totals
 pub mod Firsts
+pub mod Colours

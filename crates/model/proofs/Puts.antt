@@ -28,3 +28,10 @@ is-put f g n v here there = fun-ext (λ k. put-elim (λ m x. g m ≡ x) f n v k 
 pub is-put₂ : {X : Type 0} (f g : ℕ → ℕ → X) (n i : ℕ) (v : X) → g n i ≡ v → ((m k : ℕ) → (m ≡ n → k ≡ i → ⊥) → g m k ≡ f m k) → g ≡ put₂ f n i v
 is-put₂ f g n i v here there =
     is-put f g n (put (f n) i v) (is-put (f n) (g n) i v here (λ k off. there n k (λ _ e. off e))) (λ m off. fun-ext (λ k. there m k (λ e _. off e)))
+
+-- by whether k and j are the place that changed
+pub put₂-elim : {X : Type 0} (P : ℕ → ℕ → X → Type 0) (f : ℕ → ℕ → X) (n i : ℕ) (v : X) (k j : ℕ) → P n i v → ((k ≡ n → j ≡ i → ⊥) → P k j (f k j)) → P k j (put₂ f n i v k j)
+put₂-elim P f n i v k j here there =
+    put-elim (λ m row. m ≡ k → P m j (row j)) f n (put (f n) i v) k
+    (λ same. put-elim (λ c u. c ≡ j → P n c u) (f n) i v j (λ e. here) (λ off e. subst (λ m. P m j (f m j)) (sym same) (there (λ p q. off q))) refl)
+    (λ off e. there (λ p q. off p)) refl

@@ -1,5 +1,5 @@
 // How far marking has come with a cell in use: not reached, reached, or reached with all its slots read.
-#[derive(Clone, Copy, PartialEq, Eq)]
+#[derive(Clone, Copy)]
 pub enum Colour {
     White,
     Grey,

@@ -8,6 +8,7 @@ mod written;
 pub use colour::Colour;
 pub use heap::Heap;
 pub use reference::Reference;
+pub use reference::ReferencePartialEq;
 pub use refusal::Refusal;
 pub use refusal::ask;
 pub use written::ReferenceDisplay;

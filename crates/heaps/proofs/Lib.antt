@@ -1,7 +1,0 @@
-mod Chosen
-mod Changes
-mod Ranges
-mod Replaced
-mod Stacked
-mod Making
-mod Same

@@ -1,3 +1,0 @@
-pub mod Next
-pub mod Stacks
-pub mod Last

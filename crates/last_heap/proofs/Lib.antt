@@ -1,0 +1,6 @@
+mod Changes
+mod Ranges
+mod Replaced
+mod Stacked
+mod Making
+mod Same

@@ -1,0 +1,4 @@
+pub mod Reached
+pub mod Darkened
+pub mod Shaded
+pub mod Marked

@@ -1,0 +1,5 @@
+// A heap that makes the next free cell, going round.
+mod heap;
+
+pub use heap::NextCells;
+pub use heap::NextHeap;
