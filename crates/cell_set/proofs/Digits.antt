@@ -1,13 +1,13 @@
 -- Single binary digits of a number: after an or, an and, a complement; and what counting trailing zeros finds.
-use mathlib.Core.Path.{_≡_, refl, sym, ap, ap₂, subst, _∙_}
-use mathlib.Core.Logic.{_⊎_, inl, inr, ⊎-elim, _≢_}
-use Prim.Native.Nat.{ℕ, zero, suc, _+_, _-_, _*_, _/_, _%_, _^_, _≤_, _<_, min, max}
-use native.Mathlib.Nat.{pow-suc, mod-lt, div-lt-iff-lt-mul}
+use mathlib.Core.Path.{_≡_, refl, sym, ap, _∙_}
+use mathlib.Core.Logic.{_≢_}
+use Prim.Native.Nat.{ℕ, zero, suc, _-_, _/_, _%_, _^_, _<_, min, max}
+use native.Mathlib.Nat.{pow-suc}
 use native.Mathlib.Omega.{arith}
-use native.Mathlib.Numerals.{add-one, one-add}
+use native.Mathlib.Numerals.{one-add}
 use lib.Bits.{bitAnd, bitOr, and-step, or-step, and-shr, or-shr}
 use lib.Count.{trailingZeros, under}
-use Rattle.std.proofs.shelf.Bits.{mod-mul-add, div-mul-add, shr-shr, pow-pos, pow-below, shl-shr}
+use Rattle.std.proofs.shelf.Bits.{mod-mul-add, shr-shr}
 
 abbrev pub digit : ℕ → ℕ → ℕ
 digit n k = n / 2 ^ k % 2

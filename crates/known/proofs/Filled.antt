@@ -1,8 +1,8 @@
 -- Each make that is granted takes one cell more into use, until all 64 are.
-use mathlib.Core.Path.{_≡_, refl, sym, ap, ap₂, subst, _∙_}
+use mathlib.Core.Path.{_≡_, refl, sym, ap, ap₂, _∙_}
 use mathlib.Core.Bool.{Bool, true, false, cond}
 use mathlib.Core.Logic.{_⊎_, inl, inr, ⊎-elim}
-use Prim.Native.Nat.{ℕ, _+_, _*_, _<_, _≤_, min}
+use Prim.Native.Nat.{ℕ, _+_, _<_, _≤_, min}
 use native.Mathlib.Omega.{arith}
 use lib.Dec.{ltb}
 use Rattle.std.specs.declared.option.Option.{Option}
@@ -11,7 +11,7 @@ use Rattle.std.specs.declared.result.Result.{Result}
 use Rattle.std.specs.declared.result.Result.the-variants.{Ok, Err}
 use Rattle.std.proofs.shelf.Tests.{cases-lt, lt-ltb, le-ltb, ltb-false, cond-true, cond-false, false≢true}
 use Rattle.model.specs.Refusals.{number, first-no}
-use Rattle.model.specs.Tables.{put, one, total, first, is-some}
+use Rattle.model.specs.Tables.{put, one, first, is-some}
 use Rattle.model.specs.Cells.{Cell, Cells, all-free, empty-slots, is-free, is-used}
 use Rattle.model.specs.Cells.Cell.{free, used}
 use Rattle.model.specs.Heaps.{some-free, make-asks, Makes}

@@ -3,12 +3,11 @@ use mathlib.Core.Path.{_≡_, refl, sym, ap, _∙_}
 use mathlib.Core.List.{List, [], _∷_, _++_, map}
 use Prim.Native.Nat.{ℕ, suc}
 use native.Mathlib.Omega.{arith}
-use Rattle.std.specs.declared.option.Option.{Option}
-use Rattle.std.specs.declared.option.Option.the-variants.{Some, None}
+use Rattle.std.specs.declared.option.Option.the-variants.{None}
 use Rattle.std.specs.declared.result.Result.{Result}
 use Rattle.std.specs.declared.result.Result.the-variants.{Ok, Err}
 use Rattle.std.proofs.shelf.Lists.{same-from-push}
-use Rattle.model.specs.Refusals.{first-no, number}
+use Rattle.model.specs.Refusals.{first-no}
 use Rattle.model.specs.Tables.{put₂, first}
 use Rattle.model.specs.Cells.{Cells, all-free, empty-slots, reclaim}
 use Rattle.model.specs.Cells.Cell.{used}

@@ -1,23 +1,19 @@
 -- What holds when the top free cell is made.
 use mathlib.Core.Path.{_≡_, refl, sym, ap, subst, _∙_}
-use mathlib.Core.Bool.{Bool, true, false, cond, _&&_}
+use mathlib.Core.Bool.{true, false, cond, _&&_}
 use mathlib.Core.List.{List, [], _∷_, _++_}
-use mathlib.Core.Logic.{⊎-elim}
-use Prim.Native.Nat.{ℕ, zero, suc, _≤_, _<_}
-use native.Mathlib.Omega.{arith}
+use Prim.Native.Nat.{ℕ, _<_}
 use lib.Dec.{ltb}
 use lib.ListN.{length}
-use Rattle.std.specs.declared.option.Option.{Option}
-use Rattle.std.specs.declared.option.Option.the-variants.{Some, None}
-use Rattle.std.proofs.shelf.Tests.{cases-lt, lt-ltb, and-from, cond-true, false≢true}
-use Rattle.model.specs.Tables.{put₂, first, or-else, is-some}
+use Rattle.std.proofs.shelf.Tests.{lt-ltb, and-from, cond-true}
+use Rattle.model.specs.Tables.{put₂, is-some}
 use Rattle.model.specs.Cells.{Cells, empty-slots, is-free, is-grey}
 use Rattle.model.specs.Cells.Cell.{free, used}
 use Rattle.model.specs.Heaps.{some-free, Made}
 use Rattle.model.specs.declared.colour.Colour.{Colour}
 use Rattle.model.specs.declared.colour.Colour.the-variants.{White, Grey, Black}
 use Rattle.model.proofs.Puts.{put-here}
-use Rattle.model.proofs.Firsts.{first-none}
+use Rattle.model.proofs.Firsts.{first-none, first-is-some}
 use Rattle.table.specs.Tables.{cells-of, shows-grey}
 use Rattle.table.specs.declared.table.Table.{Table}
 use Rattle.last_heap.specs.Stacks.{stack, on-top, Stacked}
@@ -26,25 +22,6 @@ use Rattle.last_heap.specs.declared.heap.LastHeap.{LastHeap}
 use Rattle.last_heap.specs.declared.heap.stacks.Stacks.{Stacks}
 use Rattle.model.proofs.Colours.{from-free}
 use Rattle.last_heap.proofs.Stacked.{stacked-same, stacked-push, stacked-pop, stacked-room, top-passes, none-passes}
-
-else-some : (o : Option ℕ) (k : ℕ) → is-some (or-else o (Some k)) ≡ true
-else-some None k = refl
-else-some (Some x) k = refl
-
-some-else : (o other : Option ℕ) → is-some o ≡ true → is-some (or-else o other) ≡ true
-some-else None other e = absurd (false≢true e)
-some-else (Some x) other e = refl
-
--- some number passes
-first-is-some : (n : ℕ) (p : ℕ → Bool) (k : ℕ) → k < n → p k ≡ true → is-some (first n p) ≡ true
-unfolding first
-first-is-some zero p k h passes = absurd (omega arith)
-first-is-some (suc n) p k h passes = ⊎-elim
-    (λ (l : k < n). some-else (first n p) (cond (p n) (Some n) None) (first-is-some n p k l passes))
-    (λ (l : n ≤ k).
-    let here : k ≡ n = omega arith in
-    ap (λ b. is-some (or-else (first n p) (cond b (Some n) None))) (ap p (sym here) ∙ passes) ∙ else-some (first n p) n)
-    (cases-lt k n)
 
 pub none-free : (cells : Cells) (n : ℕ) (frees : ℕ → List ℕ) → n < 16 → frees n ≡ [] → Stacked is-free cells frees → some-free cells n ≡ false
 none-free cells n frees near none unused =

@@ -6,8 +6,8 @@ use Prim.Native.Nat.{ℕ, zero, suc, _≤_, _<_}
 use native.Mathlib.Omega.{arith}
 use Rattle.std.specs.declared.option.Option.{Option}
 use Rattle.std.specs.declared.option.Option.the-variants.{Some, None}
-use Rattle.std.proofs.shelf.Tests.{cases-lt, cases-order}
-use Rattle.model.specs.Tables.{first, or-else}
+use Rattle.std.proofs.shelf.Tests.{cases-lt, cases-order, false≢true}
+use Rattle.model.specs.Tables.{first, or-else, is-some}
 
 -- tests that agree below n
 pub first-same : (n : ℕ) (p q : ℕ → Bool) → ((c : ℕ) → c < n → p c ≡ q c) → first n p ≡ first n q
@@ -47,3 +47,11 @@ first-found (suc n) p = go (first n p) (first-found n p) (p n) refl
     go (Some k) found b e = (omega (arith, found .0), found .1)
     go None none true e = (omega arith, e)
     go None none false e = λ c h. ⊎-elim (λ (l : c < n). none c l) (λ (l : n ≤ c). let same : c ≡ n = omega arith in ap p same ∙ e) (cases-lt c n)
+
+-- some number passes
+pub first-is-some : (n : ℕ) (p : ℕ → Bool) (k : ℕ) → k < n → p k ≡ true → is-some (first n p) ≡ true
+first-is-some n p k h passes = go (first n p) (first-found n p)
+  where
+    go : (o : Option ℕ) → Found n p o → is-some o ≡ true
+    go (Some j) found = refl
+    go None none = absurd (false≢true (sym (none k h) ∙ passes))

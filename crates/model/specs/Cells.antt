@@ -1,6 +1,5 @@
 -- What a heap holds: at each node and each number a cell, free or in use.
 -- A cell in use has a colour and slots; a slot is empty or holds a reference.
-use mathlib.Core.Path.{_≡_}
 use mathlib.Core.List.{List, [], _∷_}
 use mathlib.Core.Bool.{Bool, true, false}
 use Prim.Native.Nat.{ℕ}

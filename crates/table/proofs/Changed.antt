@@ -1,5 +1,5 @@
 -- What a change of one set or slot does to the cells.
-use mathlib.Core.Path.{_≡_, refl, sym, ap, ap₂, subst, _∙_, fun-ext}
+use mathlib.Core.Path.{_≡_, refl, sym, ap, subst, _∙_, fun-ext}
 use mathlib.Core.Bool.{Bool, true, false, cond, _&&_, _||_, not}
 use mathlib.Core.List.{List, [], _∷_}
 use mathlib.Core.Logic.{_⊎_, inl, inr}
@@ -11,8 +11,8 @@ use Rattle.std.specs.declared.option.Option.{Option}
 use Rattle.std.specs.declared.option.Option.the-variants.{None}
 use Rattle.std.proofs.shelf.Lists.{length-set, getD-set-same, getD-set-other, getD-replicate}
 use Rattle.std.proofs.shelf.Tests.{cases-eq, cases-lt, lt-ltb, le-ltb, false≢true}
-use Rattle.model.specs.Tables.{put, put₂, one, total}
-use Rattle.model.specs.Cells.{Cell, Slots, all-free, empty-slots, is-used, is-grey, written, shaded, blackened, reclaimed, change, reclaim, kept-count}
+use Rattle.model.specs.Tables.{put, put₂}
+use Rattle.model.specs.Cells.{Cell, Slots, all-free, empty-slots, is-used, is-grey, written, shaded, blackened, reclaimed, change, reclaim}
 use Rattle.model.specs.Cells.Cell.{free, used}
 use Rattle.model.specs.declared.colour.Colour.{Colour}
 use Rattle.model.specs.declared.colour.Colour.the-variants.{White, Grey, Black}

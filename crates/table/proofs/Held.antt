@@ -1,16 +1,16 @@
 -- What the sets and slots of a table say of a cell.
 use mathlib.Core.Path.{_≡_, refl, sym, ap, subst}
-use mathlib.Core.Bool.{Bool, true, false, cond, _&&_}
+use mathlib.Core.Bool.{Bool, true, false, cond}
 use mathlib.Core.List.{List}
 use mathlib.Core.Logic.{_⊎_, inl, inr}
 use Prim.Native.Nat.{ℕ, zero, suc, _+_, _*_, _≤_, _<_}
 use native.Mathlib.Omega.{arith}
 use lib.Dec.{ltb}
-use lib.ListN.{length, getD}
+use lib.ListN.{getD}
 use Rattle.std.specs.declared.option.Option.{Option}
 use Rattle.std.specs.declared.option.Option.the-variants.{None}
-use Rattle.std.proofs.shelf.Tests.{cases-lt, lt-ltb, le-ltb, and-from, and-right, false≢true}
-use Rattle.model.specs.Cells.{Cell, is-used, slots-of}
+use Rattle.std.proofs.shelf.Tests.{cases-lt, lt-ltb, le-ltb, and-from, and-right}
+use Rattle.model.specs.Cells.{Cell}
 use Rattle.model.specs.Cells.Cell.{free}
 use Rattle.model.specs.declared.reference.Reference.{Reference}
 use Rattle.table.specs.Tables.{in-set, four, cell-of, cells-of}
@@ -40,14 +40,3 @@ slot-of-four slots k (suc zero) h = refl
 slot-of-four slots k (suc (suc zero)) h = refl
 slot-of-four slots k (suc (suc (suc zero))) h = refl
 slot-of-four slots k (suc (suc (suc (suc i)))) h = absurd (omega arith)
-
--- a cell in use has four slots
-pub four-slots : (t : Table) (n c : ℕ) → is-used (cells-of t n c) ≡ true → length (slots-of (cells-of t n c)) ≡ 4
-four-slots t n c = go (ltb n 16 && ltb c 64) (in-set (t .free) n c)
-  where
-    go : (inside f : Bool)
-        → is-used (cond inside (cell-of f (in-set (t .black) n c) (in-set (t .grey) n c) (four (t .slots) (256 * n + 4 * c))) free) ≡ true
-        → length (slots-of (cond inside (cell-of f (in-set (t .black) n c) (in-set (t .grey) n c) (four (t .slots) (256 * n + 4 * c))) free)) ≡ 4
-    go true true u = absurd (false≢true u)
-    go true false u = refl
-    go false f u = absurd (false≢true u)

@@ -1,2 +1,2 @@
-pub mod Held
+mod Held
 mod Changed
