@@ -1,64 +1,75 @@
 // The cells of the host, as the story makes, links and lists them.
+use cell_list::CellList;
 use model::Colour;
 use model::Heap;
 use model::Reference;
-use model::ReferenceDisplay;
-use model::RefusalError;
-use std::error::AnyError;
+use model::Refusal;
 
 // The one host of this program.
 pub const HOST: u8 = 0;
 
-// Makes a white cell and says what it is for.
-pub fn make<H: Heap>(rt: &LibcRuntime, heap: &mut H, what: &str) -> Result<Reference, AnyError> {
-    let cell = heap.make(HOST, Colour::White)?;
-    let made = Reference::new(HOST, cell)?;
-    println!(rt, "  {made} is {what}")?;
-    Ok(made)
+// A split with its lines, and another draft with its line.
+#[derive(Clone, Copy)]
+pub struct Drafts {
+    pub split: Reference,
+    pub first: Reference,
+    pub second: Reference,
+    pub other: Reference,
+    pub line: Reference,
 }
 
-pub fn link<H: Heap>(
-    rt: &LibcRuntime,
-    heap: &mut H,
-    from: Reference,
-    slot: u8,
-    to: Reference,
-) -> Result<(), AnyError> {
-    heap.set_slot(HOST, from.cell(), slot, Some(to))?;
-    println!(rt, "  slot {slot} of {from} names {to}")?;
-    Ok(())
+// Makes a white cell.
+pub fn make<H: Heap>(heap: &mut H) -> Result<Reference, Refusal> {
+    let cell = heap.make(HOST, Colour::White)?;
+    Reference::new(HOST, cell)
+}
+
+fn link<H: Heap>(heap: &mut H, from: Reference, slot: u8, to: Reference) -> Result<(), Refusal> {
+    heap.set_slot(HOST, from.cell(), slot, Some(to))
+}
+
+pub fn enter<H: Heap>(heap: &mut H) -> Result<Drafts, Refusal> {
+    let split = make(heap)?;
+    let first = make(heap)?;
+    let second = make(heap)?;
+    let other = make(heap)?;
+    let line = make(heap)?;
+    link(heap, split, 0, first)?;
+    link(heap, split, 1, second)?;
+    link(heap, other, 0, line)?;
+    Ok(Drafts {
+        split,
+        first,
+        second,
+        other,
+        line,
+    })
 }
 
 // What the slots of a cell name, lowest first.
-pub fn named<H: Heap>(rt: &LibcRuntime, heap: &H, cell: u8) -> Result<Vec<Reference>, AnyError> {
-    let mut names = Vec::new(rt.alloc());
+pub fn named<H: Heap>(heap: &H, cell: u8) -> Result<CellList, Refusal> {
+    let mut names = CellList::new();
     for slot in 0..4 {
         if let Some(name) = heap.slot(HOST, cell, slot)? {
-            names.push(name)?;
+            names.push(name.cell());
         }
     }
     Ok(names)
 }
 
-// The cells in use, lowest first.
-pub fn in_use<H: Heap>(rt: &LibcRuntime, heap: &H) -> Result<Vec<Reference>, AnyError> {
-    let mut used = Vec::new(rt.alloc());
+// The cells in use that are white, or that are not, lowest first.
+pub fn in_use<H: Heap>(heap: &H, white: bool) -> CellList {
+    let mut used = CellList::new();
     for cell in 0..64 {
-        if heap.colour(HOST, cell).is_ok() {
-            used.push(Reference::new(HOST, cell)?)?;
+        match heap.colour(HOST, cell) {
+            Ok(Colour::White) if white => {
+                used.push(cell);
+            }
+            Ok(Colour::Grey | Colour::Black) if !white => {
+                used.push(cell);
+            }
+            _ => {}
         }
     }
-    Ok(used)
-}
-
-// References one after another, or that there is none.
-pub fn listed(rt: &LibcRuntime, references: &[Reference]) -> Result<String, AnyError> {
-    let Some(first) = references.first() else {
-        return Ok(String::from_str(rt.alloc(), "nothing")?);
-    };
-    let mut text = format!(rt.alloc(), "{first}")?;
-    for reference in references.iter().skip(1) {
-        text.push_str(format!(rt.alloc(), ", {reference}")?.as_str())?;
-    }
-    Ok(text)
+    used
 }

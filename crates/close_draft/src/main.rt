@@ -1,6 +1,7 @@
 // One host closes a draft, step by step, on each kind of heap.
 mod books;
 mod story;
+mod telling;
 
 use last_heap::LastCells;
 use last_heap::LastHeap;
