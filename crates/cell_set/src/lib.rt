@@ -1,4 +1,6 @@
 // Sets of cells of one node.
+#![tactic(auto)]
+
 mod set;
 mod word;
 

@@ -1,4 +1,6 @@
 // Two channels: one gives messages in order of put, the other by a pick.
+#![tactic(auto)]
+
 mod bag;
 mod fifo;
 

@@ -1,4 +1,6 @@
 // One host closes a draft, step by step, on each kind of heap.
+#![tactic(auto)]
+
 mod books;
 mod story;
 mod telling;

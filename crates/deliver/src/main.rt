@@ -1,4 +1,6 @@
 // Messages are put and taken through each kind of channel, step by step.
+#![tactic(auto)]
+
 mod story;
 mod telling;
 

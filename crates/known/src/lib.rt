@@ -1,4 +1,6 @@
 // Values that are known of the parts, in one list.
+#![tactic(auto)]
+
 mod filling;
 mod freeing;
 mod outcome;

@@ -1,4 +1,6 @@
 // A value that is known of a bag of messages.
+#![tactic(auto)]
+
 mod outcome;
 mod picking;
 

@@ -1,4 +1,6 @@
 // One host marks its own cells: what is held is shaded, and then each grey cell is scanned, until none is grey.
+#![tactic(auto)]
+
 ghost use Rattle.std.specs.Prelude.{◌≡◌, ◌<◌, true};
 ghost use Rattle.model.specs.Cells.{is_grey};
 ghost use Rattle.model.specs.Heaps.{in_use};

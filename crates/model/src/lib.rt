@@ -1,4 +1,6 @@
 // The words of the collector as types, and what its parts mean: a heap of cells, a channel of messages, a detector of the end.
+#![tactic(auto)]
+
 mod channel;
 mod colour;
 mod detector;
