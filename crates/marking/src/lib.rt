@@ -15,8 +15,8 @@ use model::{Heap, Reference, Refusal, ask};
 
 // Shades what a reference names, if it is a cell of this node.
 fn shade_own<H: Heap>(heap: &mut H, node: u8, reference: Reference) -> Result<(), Refusal>
-    ensures darkens { Darkened (λ c. Names node c reference) node (cells heap.old) (cells heap.new) }
-    ensures shades { Shades (λ c. Names node c reference) node (cells heap.old) result (cells heap.new) }
+    ensures darkens { Darkened (λ c. Names node c reference) node (H.cells heap.old) (H.cells heap.new) }
+    ensures shades { Shades (λ c. Names node c reference) node (H.cells heap.old) result (H.cells heap.new) }
 {
     if reference.node() == node {
         heap.shade(node, reference.cell())?;
@@ -26,8 +26,8 @@ fn shade_own<H: Heap>(heap: &mut H, node: u8, reference: Reference) -> Result<()
 
 // Shades what is held.
 fn shade_roots<H: Heap>(heap: &mut H, node: u8, roots: &[Reference]) -> Result<(), Refusal>
-    ensures darkens { Darkened (Held node roots.now) node (cells heap.old) (cells heap.new) }
-    ensures shades { Shades (Held node roots.now) node (cells heap.old) result (cells heap.new) }
+    ensures darkens { Darkened (Held node roots.now) node (H.cells heap.old) (H.cells heap.new) }
+    ensures shades { Shades (Held node roots.now) node (H.cells heap.old) result (H.cells heap.new) }
 {
     for root in roots {
         shade_own(heap, node, *root)?;
@@ -37,9 +37,9 @@ fn shade_roots<H: Heap>(heap: &mut H, node: u8, roots: &[Reference]) -> Result<(
 
 // Shades what the slots of a cell name.
 fn shade_slots<H: Heap>(heap: &mut H, node: u8, cell: u8) -> Result<(), Refusal>
-    requires { (node < 16) × (in_use (cells heap.old) node cell ≡ true) }
-    ensures darkens { Darkened (Named (cells heap.old) node cell) node (cells heap.old) (cells heap.new) }
-    ensures shades { Shades (Named (cells heap.old) node cell) node (cells heap.old) result (cells heap.new) }
+    requires { (node < 16) × (in_use (H.cells heap.old) node cell ≡ true) }
+    ensures darkens { Darkened (Named (H.cells heap.old) node cell) node (H.cells heap.old) (H.cells heap.new) }
+    ensures shades { Shades (Named (H.cells heap.old) node cell) node (H.cells heap.old) result (H.cells heap.new) }
 {
     for slot in 0..4 {
         if let Some(reference) = heap.slot(node, cell, slot)? {
@@ -51,9 +51,9 @@ fn shade_slots<H: Heap>(heap: &mut H, node: u8, cell: u8) -> Result<(), Refusal>
 
 // Scans a grey cell: what its slots name is shaded, and then it turns black.
 fn scan<H: Heap>(heap: &mut H, node: u8, cell: u8) -> Result<(), Refusal>
-    requires { (node < 16) × ((cell < 64) × (is_grey (cells heap.old node cell) ≡ true)) }
-    ensures darkens { Darkened (Around (cells heap.old) node cell) node (cells heap.old) (cells heap.new) }
-    ensures scans { Scans node cell (cells heap.old) result (cells heap.new) }
+    requires { (node < 16) × ((cell < 64) × (is_grey (H.cells heap.old node cell) ≡ true)) }
+    ensures darkens { Darkened (Around (H.cells heap.old) node cell) node (H.cells heap.old) (H.cells heap.new) }
+    ensures scans { Scans node cell (H.cells heap.old) result (H.cells heap.new) }
 {
     shade_slots(heap, node, cell)?;
     heap.blacken(node, cell)?;
@@ -62,8 +62,8 @@ fn scan<H: Heap>(heap: &mut H, node: u8, cell: u8) -> Result<(), Refusal>
 
 // Marks the cells of one node from what is held, and answers the cells that it scanned, in order.
 pub fn mark<H: Heap>(heap: &mut H, node: u8, roots: &[Reference]) -> Result<CellList, Refusal>
-    ensures darkens { Darkened (Reached (cells heap.old) node roots.now) node (cells heap.old) (cells heap.new) }
-    ensures marks { Marks node roots.now (cells heap.old) result (cells heap.new) (heap.new ≡ heap.old) }
+    ensures darkens { Darkened (Reached (H.cells heap.old) node roots.now) node (H.cells heap.old) (H.cells heap.new) }
+    ensures marks { Marks node roots.now (H.cells heap.old) result (H.cells heap.new) (heap.new ≡ heap.old) }
 {
     ask(node < 16, Refusal::NoSuchNode)?;
     shade_roots(heap, node, roots)?;

@@ -8,13 +8,13 @@ loop-root-init g c = holding_begins c.args.node c.args.roots.now (g.H.Heap.cells
 
 pub loop-root-preserved : goal.loop-root-preserved
 loop-root-preserved g c =
-    holding_more c.args.node c.args.roots.now (g.H.Heap.cells c.args.heap.now) c.loop-root.root-index (g.H.Heap.cells c.loop-root.heap) c.loop-root.invariant c.loop-root-test.true c.root-item.result c.root-item.is (g.H.Heap.cells c.shade-own.new.heap) c.shade-own.ensures.darkens c.in-ok-shade-own.ensures.shades
+    holding_more c.args.node c.args.roots.now (g.H.Heap.cells c.args.heap.now) c.loop-root.root-index (g.H.Heap.cells c.loop-root.heap) c.loop-root.invariant c.loop-root-test.true c.root-item.result c.root-item.is (g.H.Heap.cells c.shade_own.new.heap) c.shade_own.ensures.darkens c.in_ok-shade_own.ensures.shades
 
-pub returns-in-err-shade-own : goal.returns-in-err-shade-own
-returns-in-err-shade-own g c =
-    let p = err_from_is_err_and c.from-residual.result c.from-residual.ensures.1 in
-    let why = c.in-err-shade-own.ensures.shades in
-    let stops = holding_stops c.args.node c.args.roots.now (g.H.Heap.cells c.args.heap.now) c.loop-root.root-index (g.H.Heap.cells c.loop-root.heap) c.loop-root.invariant c.loop-root-test.true c.root-item.result c.root-item.is (g.H.Heap.cells c.shade-own.new.heap) c.shade-own.ensures.darkens why.1 in
+pub returns-in_err-shade_own : goal.returns-in_err-shade_own
+returns-in_err-shade_own g c =
+    let p = err_from_is_err_and c.from_residual.result c.from_residual.ensures.1 in
+    let why = c.in_err-shade_own.ensures.shades in
+    let stops = holding_stops c.args.node c.args.roots.now (g.H.Heap.cells c.args.heap.now) c.loop-root.root-index (g.H.Heap.cells c.loop-root.heap) c.loop-root.invariant c.loop-root-test.true c.root-item.result c.root-item.is (g.H.Heap.cells c.shade_own.new.heap) c.shade_own.ensures.darkens why.1 in
     record { darkens = stops.0; shades = rw (p.1, p.2) (why.0, stops.1) }
 
 pub returns : goal.returns

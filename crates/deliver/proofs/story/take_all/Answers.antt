@@ -10,5 +10,5 @@ loop-message-smaller g c =
     let before = c.loop-message.channel in
     let after = c.take.new.self in
     let m = c.in-Some.message in
-    let gave = subst (λ given. Gives waiting g.C.Channel.capacity before c.args.node given after) c.in-Some.is c.in-ok-message.ensures.1 in
+    let gave = subst (λ given. Gives waiting g.C.Channel.capacity before c.args.node given after) c.in-Some.is c.in_ok-message.ensures.1 in
     omega (arith, added_length m (waiting after) (waiting before) gave.removed)

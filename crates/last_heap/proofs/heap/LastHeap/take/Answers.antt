@@ -8,53 +8,53 @@ use Rattle.last_heap.proofs.Making.{making, none_free, no_shown_grey}
 use Rattle.last_heap.proofs.Same.{same_heap}
 use Rattle.last_heap.proofs.heap.LastHeap.take.Goals as goal
 
-pub returns-in-err-cell : goal.returns-in-err-cell
-returns-in-err-cell c =
+pub returns-in_err-cell : goal.returns-in_err-cell
+returns-in_err-cell c =
     let heap = c.args.self.now in
-    let none = c.in-err-cell.ensures in
-    rw c.from-residual.ensures
+    let none = c.in_err-cell.ensures in
+    rw c.from_residual.ensures
     (none_free (last_cells heap) c.args.node (frees heap) c.requires none.0 heap.unused, same_heap _ _ refl none.1 refl)
 
 pub push-requires : goal.push-requires
 push-requires c =
     let heap = c.args.self.now in
     let n = c.args.node in
-    let cell = c.in-ok-cell.cell in
-    let facts = making heap c.pop.new.self c.occupy.new.self n cell c.args.colour c.requires c.in-ok-cell.ensures c.occupy.ensures in
+    let cell = c.in_ok-cell.cell in
+    let facts = making heap c.pop.new.self c.occupy.new.self n cell c.args.colour c.requires c.in_ok-cell.ensures c.occupy.ensures in
     record { near = c.requires; room = facts.room }
 
 pub invariant-of-self-in-Grey : goal.invariant-of-self-in-Grey
 invariant-of-self-in-Grey c =
     let heap = c.args.self.now in
     let n = c.args.node in
-    let cell = c.in-ok-cell.cell in
-    let facts = making heap c.pop.new.self c.occupy.new.self n cell c.args.colour c.requires c.in-ok-cell.ensures c.occupy.ensures in
+    let cell = c.in_ok-cell.cell in
+    let facts = making heap c.pop.new.self c.occupy.new.self n cell c.args.colour c.requires c.in_ok-cell.ensures c.occupy.ensures in
     let pushed = ap (λ colour. cond (shows_grey colour) (on_top (greys heap) n cell) (greys heap)) c.in-Grey.is ∙ sym c.push.ensures in
     (facts.unused, (subst (Stacked is_grey (cells_of c.occupy.new.self)) pushed facts.reached, tt))
 
-pub invariant-of-self-in-default : goal.invariant-of-self-in-default
-invariant-of-self-in-default c =
+pub invariant-of-self-in_default : goal.invariant-of-self-in_default
+invariant-of-self-in_default c =
     let heap = c.args.self.now in
     let n = c.args.node in
-    let cell = c.in-ok-cell.cell in
-    let facts = making heap c.pop.new.self c.occupy.new.self n cell c.args.colour c.requires c.in-ok-cell.ensures c.occupy.ensures in
-    let stays = cond-false (shows_grey c.args.colour) (on_top (greys heap) n cell) (greys heap) (no_shown_grey c.args.colour c.in-default.not-Grey) in
+    let cell = c.in_ok-cell.cell in
+    let facts = making heap c.pop.new.self c.occupy.new.self n cell c.args.colour c.requires c.in_ok-cell.ensures c.occupy.ensures in
+    let stays = cond-false (shows_grey c.args.colour) (on_top (greys heap) n cell) (greys heap) (no_shown_grey c.args.colour c.in_default.not-Grey) in
     (facts.unused, (subst (Stacked is_grey (cells_of c.occupy.new.self)) stays facts.reached, tt))
 
 pub returns-in-Grey : goal.returns-in-Grey
 returns-in-Grey c =
     let heap = c.args.self.now in
     let n = c.args.node in
-    let cell = c.in-ok-cell.cell in
-    let facts = making heap c.pop.new.self c.occupy.new.self n cell c.args.colour c.requires c.in-ok-cell.ensures c.occupy.ensures in
+    let cell = c.in_ok-cell.cell in
+    let facts = making heap c.pop.new.self c.occupy.new.self n cell c.args.colour c.requires c.in_ok-cell.ensures c.occupy.ensures in
     let pushed = ap (λ colour. cond (shows_grey colour) (on_top (greys heap) n cell) (greys heap)) c.in-Grey.is ∙ sym c.push.ensures in
-    (facts.some, facts.made, (c.in-ok-cell.ensures, sym pushed))
+    (facts.some, facts.made, (c.in_ok-cell.ensures, sym pushed))
 
-pub returns-in-default : goal.returns-in-default
-returns-in-default c =
+pub returns-in_default : goal.returns-in_default
+returns-in_default c =
     let heap = c.args.self.now in
     let n = c.args.node in
-    let cell = c.in-ok-cell.cell in
-    let facts = making heap c.pop.new.self c.occupy.new.self n cell c.args.colour c.requires c.in-ok-cell.ensures c.occupy.ensures in
-    let stays = cond-false (shows_grey c.args.colour) (on_top (greys heap) n cell) (greys heap) (no_shown_grey c.args.colour c.in-default.not-Grey) in
-    (facts.some, facts.made, (c.in-ok-cell.ensures, sym stays))
+    let cell = c.in_ok-cell.cell in
+    let facts = making heap c.pop.new.self c.occupy.new.self n cell c.args.colour c.requires c.in_ok-cell.ensures c.occupy.ensures in
+    let stays = cond-false (shows_grey c.args.colour) (on_top (greys heap) n cell) (greys heap) (no_shown_grey c.args.colour c.in_default.not-Grey) in
+    (facts.some, facts.made, (c.in_ok-cell.ensures, sym stays))

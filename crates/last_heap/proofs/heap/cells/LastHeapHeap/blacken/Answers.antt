@@ -9,13 +9,13 @@ use Rattle.last_heap.proofs.Same.{same_heap, same_stacked}
 use Rattle.last_heap.proofs.heap.cells.LastHeapHeap.blacken.Goals as goal
 
 pub invariant-of-self : goal.invariant-of-self
-invariant-of-self c = same_stacked c.args.self.now c.blacken.new.self c.in-err-blacken.ensures.1
+invariant-of-self c = same_stacked c.args.self.now c.blacken.new.self c.in_err-blacken.ensures.1
 
-pub returns-in-err-blacken : goal.returns-in-err-blacken
-returns-in-err-blacken c =
-    let p = err_from_is_err_and c.from-residual.result c.from-residual.ensures.1 in
+pub returns-in_err-blacken : goal.returns-in_err-blacken
+returns-in_err-blacken c =
+    let p = err_from_is_err_and c.from_residual.result c.from_residual.ensures.1 in
     rw (p.1, p.2)
-    (let same = same_heap _ _ c.in-err-blacken.ensures.1 refl refl in record { cells = (c.in-err-blacken.ensures.0, same); choice = same })
+    (let same = same_heap _ _ c.in_err-blacken.ensures.1 refl refl in record { cells = (c.in_err-blacken.ensures.0, same); choice = same })
 
 pub invariant-of-self-2 : goal.invariant-of-self-2
 invariant-of-self-2 c =
@@ -23,7 +23,7 @@ invariant-of-self-2 c =
     let n = c.args.node in
     let cell = c.args.cell in
     let near : n < 16 = search rules in
-    let cells = sym c.in-ok-blacken.ensures.1 in
+    let cells = sym c.in_ok-blacken.ensures.1 in
     let black = blackened (last_cells heap n cell) in (
       subst (λ after. Stacked is_free after (frees heap)) cells (stacked_same is_free (last_cells heap) n (frees heap) cell black (blackened_free (last_cells heap n cell)) heap.unused),
       (subst₂ (Stacked is_grey) cells (sym c.remove.ensures) (stacked_without is_grey (last_cells heap) n (greys heap) cell black near (blackened_grey (last_cells heap n cell)) heap.reached), tt),

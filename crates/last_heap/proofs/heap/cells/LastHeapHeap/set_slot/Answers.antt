@@ -13,14 +13,14 @@ invariant-of-self c =
     let cell = c.args.cell in
     let i = c.args.slot in
     let what = c.args.what in
-    let after = c.set-slot.new.self in
-    let r = c.set-slot.result in (
-      stacked_written is_free heap.table after n cell i what r (frees heap) (written_free i what) c.set-slot.ensures heap.unused,
-      (stacked_written is_grey heap.table after n cell i what r (greys heap) (written_grey i what) c.set-slot.ensures heap.reached, tt),
+    let after = c.set_slot.new.self in
+    let r = c.set_slot.result in (
+      stacked_written is_free heap.table after n cell i what r (frees heap) (written_free i what) c.set_slot.ensures heap.unused,
+      (stacked_written is_grey heap.table after n cell i what r (greys heap) (written_grey i what) c.set_slot.ensures heap.reached, tt),
     )
 
 pub returns : goal.returns
 returns c = record {
-  cells = writes_slot c.args.self.now _ c.args.node c.args.cell c.args.slot c.args.what c.set-slot.result refl refl c.set-slot.ensures;
+  cells = writes_slot c.args.self.now _ c.args.node c.args.cell c.args.slot c.args.what c.set_slot.result refl refl c.set_slot.ensures;
   choice = (refl, refl);
 }

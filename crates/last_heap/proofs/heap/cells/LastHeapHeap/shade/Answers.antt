@@ -9,13 +9,13 @@ use Rattle.last_heap.proofs.Same.{same_heap, same_stacked}
 use Rattle.last_heap.proofs.heap.cells.LastHeapHeap.shade.Goals as goal
 
 pub invariant-of-self : goal.invariant-of-self
-invariant-of-self c = same_stacked c.args.self.now c.shade.new.self c.in-err-shade.ensures.1
+invariant-of-self c = same_stacked c.args.self.now c.shade.new.self c.in_err-shade.ensures.1
 
-pub returns-in-err-shade : goal.returns-in-err-shade
-returns-in-err-shade c =
-    let p = err_from_is_err_and c.from-residual-in-err-shade.result c.from-residual-in-err-shade.ensures.1 in
+pub returns-in_err-shade : goal.returns-in_err-shade
+returns-in_err-shade c =
+    let p = err_from_is_err_and c.from_residual-in_err-shade.result c.from_residual-in_err-shade.ensures.1 in
     rw (p.1, p.2)
-    (let same = same_heap _ _ c.in-err-shade.ensures.1 refl refl in record { cells = (c.in-err-shade.ensures.0, same); choice = same })
+    (let same = same_heap _ _ c.in_err-shade.ensures.1 refl refl in record { cells = (c.in_err-shade.ensures.0, same); choice = same })
 
 pub push-requires : goal.push-requires
 push-requires c =
@@ -24,7 +24,7 @@ push-requires c =
     let cell = c.args.cell in
     let near : n < 16 = search rules in
     let low : cell < 64 = search rules in
-    let white : is_white (last_cells heap n cell) ≡ true = sym (c.in-ok-white.ensures.1 cell) ∙ sym c.if-has.ensures in
+    let white : is_white (last_cells heap n cell) ≡ true = sym (c.in_ok-white.ensures.1 cell) ∙ sym c.if-has.ensures in
     record { near = near; room = stacked_room is_grey (last_cells heap) n (greys heap) cell near low (white_shaded (last_cells heap n cell) white).0 heap.reached }
 
 pub invariant-of-self-then-has : goal.invariant-of-self-then-has
@@ -35,8 +35,8 @@ invariant-of-self-then-has c =
     let near : n < 16 = search rules in
     let low : cell < 64 = search rules in
     let was = last_cells heap n cell in
-    let white : is_white was ≡ true = sym (c.in-ok-white.ensures.1 cell) ∙ sym c.if-has.ensures in
-    let cells = sym c.in-ok-shade.ensures.1 in (
+    let white : is_white was ≡ true = sym (c.in_ok-white.ensures.1 cell) ∙ sym c.if-has.ensures in
+    let cells = sym c.in_ok-shade.ensures.1 in (
       subst (λ after. Stacked is_free after (frees heap)) cells (stacked_same is_free (last_cells heap) n (frees heap) cell (shaded was) (shaded_free was) heap.unused),
       (subst₂ (Stacked is_grey) cells (sym c.push.ensures) (stacked_push is_grey (last_cells heap) n (greys heap) cell (shaded was) near low (white_shaded was white).0 (white_shaded was white).1 heap.reached), tt),
     )
@@ -47,8 +47,8 @@ invariant-of-self-else-has c =
     let n = c.args.node in
     let cell = c.args.cell in
     let was = last_cells heap n cell in
-    let other : is_white was ≡ false = sym (c.in-ok-white.ensures.1 cell) ∙ sym c.if-has.ensures in
-    let cells = sym c.in-ok-shade.ensures.1 in (
+    let other : is_white was ≡ false = sym (c.in_ok-white.ensures.1 cell) ∙ sym c.if-has.ensures in
+    let cells = sym c.in_ok-shade.ensures.1 in (
       subst (λ after. Stacked is_free after (frees heap)) cells (stacked_same is_free (last_cells heap) n (frees heap) cell (shaded was) (shaded_free was) heap.unused),
       (subst (λ after. Stacked is_grey after (greys heap)) cells (stacked_same is_grey (last_cells heap) n (greys heap) cell (shaded was) (other_shaded was other) heap.reached), tt),
     )
