@@ -25,10 +25,10 @@ same_heap x y table free grey = λ i. record {
 }
 
 -- the table is as it was
-pub same_stacked : (heap : LastHeap) (t : Table) → t ≡ heap.table → Stacked is_free (cells_of t) (stack heap.free) × (Stacked is_grey (cells_of t) (stack heap.grey) × Unit {0})
+pub same_stacked : (heap : LastHeap) (t : Table) → t ≡ heap.table → Stacked is_free (cells_of t) (stack heap.free) × Stacked is_grey (cells_of t) (stack heap.grey)
 same_stacked heap t same = (
   subst (λ x. Stacked is_free (cells_of x) (stack heap.free)) (sym same) heap.unused,
-  (subst (λ x. Stacked is_grey (cells_of x) (stack heap.grey)) (sym same) heap.reached, tt),
+  subst (λ x. Stacked is_grey (cells_of x) (stack heap.grey)) (sym same) heap.reached,
 )
 
 -- a heap whose table alone is written

@@ -102,11 +102,9 @@ begins_grey : Stacked is_grey all_free (at_nodes [])
 begins_grey n near =
     subst (Once (λ c. ltb c 64 && false)) (sym (cond-true (ltb n 16) [] [] (lt-ltb n 16 near))) (λ c. ap one (sym (and_right (ltb c 64) false refl)))
 
-pub begins : {cells : Cells} {frees greys : ℕ → List ℕ} → cells ≡ all_free → frees ≡ at_nodes (falling 64) → greys ≡ at_nodes [] → Stacked is_free cells frees × (Stacked is_grey cells greys × Unit {0})
-begins cells frees greys = (
-  subst₂ (Stacked is_free) (sym cells) (sym frees) begins_free,
-  (subst₂ (Stacked is_grey) (sym cells) (sym greys) begins_grey, tt),
-)
+pub begins : {cells : Cells} {frees greys : ℕ → List ℕ} → cells ≡ all_free → frees ≡ at_nodes (falling 64) → greys ≡ at_nodes [] → Stacked is_free cells frees × Stacked is_grey cells greys
+begins cells frees greys =
+    (subst₂ (Stacked is_free) (sym cells) (sym frees) begins_free, subst₂ (Stacked is_grey) (sym cells) (sym greys) begins_grey)
 
 -- a reclaimed cell is free if it was free or white
 freed : (b : Bool) (x : Cell) → one (b && is_free x) + one (b && is_white x) ≡ one (b && is_free (reclaimed x))

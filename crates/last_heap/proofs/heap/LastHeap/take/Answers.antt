@@ -23,23 +23,23 @@ push-requires c =
     let facts = making heap c.pop.new.self c.occupy.new.self n cell c.args.colour c.requires c.in_ok-cell.ensures c.occupy.ensures in
     record { near = c.requires; room = facts.room }
 
-pub invariant-of-self-in-Grey : goal.invariant-of-self-in-Grey
-invariant-of-self-in-Grey c =
+pub invariant_of-self-in-Grey : goal.invariant_of-self-in-Grey
+invariant_of-self-in-Grey c =
     let heap = c.args.self.now in
     let n = c.args.node in
     let cell = c.in_ok-cell.cell in
     let facts = making heap c.pop.new.self c.occupy.new.self n cell c.args.colour c.requires c.in_ok-cell.ensures c.occupy.ensures in
     let pushed = ap (λ colour. cond (shows_grey colour) (on_top (greys heap) n cell) (greys heap)) c.in-Grey.is ∙ sym c.push.ensures in
-    (facts.unused, (subst (Stacked is_grey (cells_of c.occupy.new.self)) pushed facts.reached, tt))
+    record { unused = facts.unused; reached = subst (Stacked is_grey (cells_of c.occupy.new.self)) pushed facts.reached }
 
-pub invariant-of-self-in_default : goal.invariant-of-self-in_default
-invariant-of-self-in_default c =
+pub invariant_of-self-in_default : goal.invariant_of-self-in_default
+invariant_of-self-in_default c =
     let heap = c.args.self.now in
     let n = c.args.node in
     let cell = c.in_ok-cell.cell in
     let facts = making heap c.pop.new.self c.occupy.new.self n cell c.args.colour c.requires c.in_ok-cell.ensures c.occupy.ensures in
     let stays = cond-false (shows_grey c.args.colour) (on_top (greys heap) n cell) (greys heap) (no_shown_grey c.args.colour c.in_default.not-Grey) in
-    (facts.unused, (subst (Stacked is_grey (cells_of c.occupy.new.self)) stays facts.reached, tt))
+    record { unused = facts.unused; reached = subst (Stacked is_grey (cells_of c.occupy.new.self)) stays facts.reached }
 
 pub returns-in-Grey : goal.returns-in-Grey
 returns-in-Grey c =

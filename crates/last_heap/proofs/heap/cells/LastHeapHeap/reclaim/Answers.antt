@@ -17,13 +17,13 @@ push_each-requires c =
       room = subst (λ p. length (frees heap n ++ rising 64 p) ≤ 64) (sym (fun_ext c.in_ok-white.ensures.1)) (freed_room (last_cells heap) n (frees heap) near heap.unused);
     }
 
-pub invariant-of-self-2 : goal.invariant-of-self-2
-invariant-of-self-2 c =
+pub invariant_of-self-2 : goal.invariant_of-self-2
+invariant_of-self-2 c =
     let heap = c.args.self.now in
     let n = c.args.node in
     let near : n < 16 = search rules in
     let cells = sym c.in_ok-counts.ensures.1.cells in
-    let free = sym (c.push_each.ensures ∙ ap (λ p. put (frees heap) n (frees heap n ++ rising 64 p)) (fun_ext c.in_ok-white.ensures.1)) in (
-      subst₂ (Stacked is_free) cells free (reclaims_free (last_cells heap) n (frees heap) near heap.unused),
-      (subst₂ (Stacked is_grey) cells (sym c.clear.ensures) (reclaims_grey (last_cells heap) n (greys heap) near heap.reached), tt),
-    )
+    let free = sym (c.push_each.ensures ∙ ap (λ p. put (frees heap) n (frees heap n ++ rising 64 p)) (fun_ext c.in_ok-white.ensures.1)) in record {
+      unused = subst₂ (Stacked is_free) cells free (reclaims_free (last_cells heap) n (frees heap) near heap.unused);
+      reached = subst₂ (Stacked is_grey) cells (sym c.clear.ensures) (reclaims_grey (last_cells heap) n (greys heap) near heap.reached);
+    }

@@ -8,8 +8,10 @@ use Rattle.last_heap.proofs.Stacked.{stacked_same, stacked_push, stacked_room}
 use Rattle.last_heap.proofs.Same.{same_heap, same_stacked}
 use Rattle.last_heap.proofs.heap.cells.LastHeapHeap.shade.Goals as goal
 
-pub invariant-of-self : goal.invariant-of-self
-invariant-of-self c = same_stacked c.args.self.now c.shade.new.self c.in_err-shade.ensures.1
+pub invariant_of-self : goal.invariant_of-self
+invariant_of-self c =
+    let both = same_stacked c.args.self.now c.shade.new.self c.in_err-shade.ensures.1 in
+    record { unused = both.0; reached = both.1 }
 
 pub returns-in_err-shade : goal.returns-in_err-shade
 returns-in_err-shade c =
@@ -27,8 +29,8 @@ push-requires c =
     let white : is_white (last_cells heap n cell) ≡ true = sym (c.in_ok-white.ensures.1 cell) ∙ sym c.if-has.ensures in
     record { near = near; room = stacked_room is_grey (last_cells heap) n (greys heap) cell near low (white_shaded (last_cells heap n cell) white).0 heap.reached }
 
-pub invariant-of-self-then-has : goal.invariant-of-self-then-has
-invariant-of-self-then-has c =
+pub invariant_of-self-then-has : goal.invariant_of-self-then-has
+invariant_of-self-then-has c =
     let heap = c.args.self.now in
     let n = c.args.node in
     let cell = c.args.cell in
@@ -36,19 +38,19 @@ invariant-of-self-then-has c =
     let low : cell < 64 = search rules in
     let was = last_cells heap n cell in
     let white : is_white was ≡ true = sym (c.in_ok-white.ensures.1 cell) ∙ sym c.if-has.ensures in
-    let cells = sym c.in_ok-shade.ensures.1 in (
-      subst (λ after. Stacked is_free after (frees heap)) cells (stacked_same is_free (last_cells heap) n (frees heap) cell (shaded was) (shaded_free was) heap.unused),
-      (subst₂ (Stacked is_grey) cells (sym c.push.ensures) (stacked_push is_grey (last_cells heap) n (greys heap) cell (shaded was) near low (white_shaded was white).0 (white_shaded was white).1 heap.reached), tt),
-    )
+    let cells = sym c.in_ok-shade.ensures.1 in record {
+      unused = subst (λ after. Stacked is_free after (frees heap)) cells (stacked_same is_free (last_cells heap) n (frees heap) cell (shaded was) (shaded_free was) heap.unused);
+      reached = subst₂ (Stacked is_grey) cells (sym c.push.ensures) (stacked_push is_grey (last_cells heap) n (greys heap) cell (shaded was) near low (white_shaded was white).0 (white_shaded was white).1 heap.reached);
+    }
 
-pub invariant-of-self-else-has : goal.invariant-of-self-else-has
-invariant-of-self-else-has c =
+pub invariant_of-self-else-has : goal.invariant_of-self-else-has
+invariant_of-self-else-has c =
     let heap = c.args.self.now in
     let n = c.args.node in
     let cell = c.args.cell in
     let was = last_cells heap n cell in
     let other : is_white was ≡ false = sym (c.in_ok-white.ensures.1 cell) ∙ sym c.if-has.ensures in
-    let cells = sym c.in_ok-shade.ensures.1 in (
-      subst (λ after. Stacked is_free after (frees heap)) cells (stacked_same is_free (last_cells heap) n (frees heap) cell (shaded was) (shaded_free was) heap.unused),
-      (subst (λ after. Stacked is_grey after (greys heap)) cells (stacked_same is_grey (last_cells heap) n (greys heap) cell (shaded was) (other_shaded was other) heap.reached), tt),
-    )
+    let cells = sym c.in_ok-shade.ensures.1 in record {
+      unused = subst (λ after. Stacked is_free after (frees heap)) cells (stacked_same is_free (last_cells heap) n (frees heap) cell (shaded was) (shaded_free was) heap.unused);
+      reached = subst (λ after. Stacked is_grey after (greys heap)) cells (stacked_same is_grey (last_cells heap) n (greys heap) cell (shaded was) (other_shaded was other) heap.reached);
+    }
