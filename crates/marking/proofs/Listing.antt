@@ -1,6 +1,6 @@
 -- The list of scanned cells: each cell that has turned black stands in it once.
 -- A cell that is grey has not turned yet, so there is room for it.
-use Rattle.std.proofs.Common.{◌≡◌, ℕ, ◌<◌, Bool, true, false, not, ◌&&◌, ltb, ◌⊎◌, List, [], ◌∷◌, ◌++◌, length, sym, refl, ap, ap₂, ⊎_elim}
+use Rattle.std.proofs.Common.{◌≡◌, ℕ, ◌<◌, Bool, true, false, not, ◌&&◌, ltb, List, [], ◌∷◌, ◌++◌, length, sym, refl, ap, ap₂, ⊎_elim}
 use Rattle.std.proofs.lemmas.Bool.{both_ways, cases_Bool, lt-ltb, and_left, and_right}
 use Rattle.model.specs.Tables.{put, one}
 use Rattle.model.specs.Cells.{Cells, is_grey, is_black}

@@ -1,5 +1,5 @@
 -- References and messages that agree in their numbers are the same.
-use Rattle.std.proofs.Common.{◌≡◌, ℕ, ◌%◌, ◌<◌, Bool, true, false, cond, ◌&&◌, eqb, List, [], ◌∷◌, get_or, drop, sym, refl, ap, ◌∙◌, mod-lt, mod-eq_of_lt, arith}
+use Rattle.std.proofs.Common.{◌≡◌, ℕ, ◌%◌, ◌<◌, true, cond, ◌&&◌, eqb, List, [], ◌∷◌, get_or, drop, sym, refl, ap, ◌∙◌, mod-lt, mod-eq_of_lt, arith}
 use mathlib.Core.Bool.{Bool-set}
 use mathlib.Core.HLevel.{is_prop→PathP}
 use native.Mathlib.Bridge.{le_prop}

@@ -2,7 +2,6 @@
 -- There are 16 nodes with 8 registers and 64 cells each; stamps are 0 and 1.
 use Rattle.std.specs.Prelude.{ℕ, ◌+◌, Bool, true, not, ◌&&◌, [], ◌∷◌, ◌==◌, nat_le, nat_lt}
 use Rattle.model.specs.Refusals.{Questions}
-use Rattle.model.specs.declared.reference.Reference.{Reference}
 use Rattle.model.specs.declared.kind.Kind.{Kind}
 use Rattle.model.specs.declared.kind.Kind.TheVariants.{Open, Opened, Start, Mark, Ref, RefAck, Sweep, Swept}
 

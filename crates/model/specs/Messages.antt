@@ -3,7 +3,6 @@
 use Rattle.std.specs.Prelude.{◌≡◌, ℕ, ◌+◌, Bool, true, false, ◌&&◌, List, [], ◌∷◌, ◌==◌}
 use Rattle.model.specs.Tables.{one}
 use Rattle.model.specs.Kinds.{kind_number}
-use Rattle.model.specs.declared.reference.Reference.{Reference}
 use Rattle.model.specs.declared.kind.Kind.{Kind}
 use Rattle.model.specs.declared.kind.Kind.TheVariants.{Open, Opened, Start, Mark, Ref, RefAck, Sweep, Swept}
 use Rattle.model.specs.declared.message.Message.{Message}

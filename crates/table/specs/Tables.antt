@@ -1,6 +1,6 @@
 -- The cells that a table holds.
 -- A look past the end of a table gives the empty set or slot.
-use Rattle.std.specs.Prelude.{ℕ, ◌+◌, ◌*◌, Bool, true, false, cond, ◌&&◌, List, [], ◌∷◌, set, None, Option, nat_lt, slice_index_or, slice_set}
+use Rattle.std.specs.Prelude.{ℕ, ◌+◌, ◌*◌, Bool, true, false, cond, ◌&&◌, List, [], ◌∷◌, None, Option, nat_lt, slice_index_or, slice_set}
 use Rattle.model.specs.Cells.{Cell, Cells, Slots}
 use Rattle.model.specs.Cells.Cell.{free, used}
 use Rattle.model.specs.declared.colour.Colour.{Colour}

@@ -1,5 +1,5 @@
 // The calls that change a table.
-ghost use Rattle.std.specs.Prelude.{◌≡◌, ◌&&◌, ltb, if◌then◌else◌, nat_lt};
+ghost use Rattle.std.specs.Prelude.{◌≡◌, ◌&&◌, if◌then◌else◌, nat_lt};
 ghost use Rattle.model.specs.Tables.{put₂};
 ghost use Rattle.model.specs.Cells.{all_free, empty_slots};
 ghost use Rattle.model.specs.Cells.Cell.{used};
@@ -71,7 +71,7 @@ impl Table {
 
     // Takes a cell into use, whatever it was.
     pub fn occupy(&mut self, node: u8, cell: u8, colour: Colour)
-        ensures { cells_of self.new ≡ (if ltb node 16 && nat_lt cell 64 then put₂ (cells_of self.old) node cell (used colour empty_slots) else cells_of self.old) }
+        ensures { cells_of self.new ≡ (if nat_lt node 16 && nat_lt cell 64 then put₂ (cells_of self.old) node cell (used colour empty_slots) else cells_of self.old) }
     {
         if node < 16 && cell < 64 {
             self.set_used(node, cell, colour);

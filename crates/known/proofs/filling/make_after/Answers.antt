@@ -16,13 +16,13 @@ loop-made-preserved g c = λ near.
 
 pub returns-in-Ok : goal.returns-in-Ok
 returns-in-Ok g c =
-    let end : c.loop-made.-made ≡ c.args.count = omega arith in
+    let end : c.loop-made._made ≡ c.args.count = omega arith in
     ap outcome (sym c.in-Ok.ensures.0)
     ∙ one_make_more (g.H.Heap.cells c.loop-made.heap) c.args.node c.args.count (λ near. c.loop-made.invariant near ∙ ap (λ k. min k 64) end)
 
 pub returns-in-Err : goal.returns-in-Err
 returns-in-Err g c =
-    let end : c.loop-made.-made ≡ c.args.count = omega arith in
+    let end : c.loop-made._made ≡ c.args.count = omega arith in
     ap (λ k. Refused k) c.number.ensures
     ∙ ap outcome (sym c.in-Err.ensures.0)
     ∙ one_make_more (g.H.Heap.cells c.loop-made.heap) c.args.node c.args.count (λ near. c.loop-made.invariant near ∙ ap (λ k. min k 64) end)
