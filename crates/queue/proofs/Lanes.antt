@@ -1,11 +1,11 @@
 -- The lanes of a list of messages, where one is added or taken out.
-use Rattle.std.proofs.Common.{◌≡◌, ℕ, zero, suc, ◌+◌, ◌<◌, Bool, true, false, cond, List, [], ◌∷◌, ◌++◌, length, get_or, take, drop, Some, None, sym, refl, ap, ◌∙◌, subst, ap₂, add-one, arith}
+use Rattle.std.proofs.Common.{◌≡◌, ℕ, suc, ◌+◌, ◌<◌, Bool, true, false, cond, List, [], ◌∷◌, ◌++◌, length, get_or, take, drop, Some, sym, refl, ap, ◌∙◌, subst, ap₂, add-one, arith}
 use Rattle.std.specs.List.{slice_get, remove}
 use Rattle.std.proofs.lemmas.List.Elements.{filter-append}
 use Rattle.std.proofs.lemmas.List.Filters.{length-filter_more}
-use Rattle.std.proofs.lemmas.List.{append-nil, drop_more, take-append-drop, take_at, drop_at, length-append}
+use Rattle.std.proofs.lemmas.List.{append-nil, drop_more, take-append-drop, take_at, length-append}
 use Rattle.std.proofs.lemmas.Bool.{eqb-true, eq-eqb, ne_eqb}
-use Rattle.model.specs.Tables.{one, put}
+use Rattle.model.specs.Tables.{one}
 use Rattle.model.specs.Messages.{for, how_many, sum, same, Added}
 use Rattle.model.specs.declared.message.Message.{Message}
 use Rattle.model.proofs.Counts.{sum_middle}

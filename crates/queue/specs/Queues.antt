@@ -1,9 +1,9 @@
 -- What a queue holds, and what is added to it and taken from it.
 -- The messages for one node stand in its lane, in the order in which they were put.
-use Rattle.std.specs.Prelude.{◌≡◌, ℕ, ◌<◌, ◌≤◌, Bool, true, false, List, [], ◌∷◌, ◌++◌, length, take, Some, None, Ok, Err, filter, Option, Result, slice_index_or}
+use Rattle.std.specs.Prelude.{◌≡◌, ℕ, ◌<◌, ◌≤◌, true, List, [], ◌∷◌, ◌++◌, length, take, Some, None, Ok, Err, filter, Option, Result, slice_index_or}
 use Rattle.std.specs.List.{slice_get, remove}
 use Rattle.model.specs.Tables.{put}
-use Rattle.model.specs.Messages.{for, how_many}
+use Rattle.model.specs.Messages.{for}
 use Rattle.model.specs.Channels.{Delivered}
 use Rattle.model.specs.declared.message.Message.{Message}
 use Rattle.model.specs.declared.refusal.Refusal.{Refusal}

@@ -1,6 +1,5 @@
-use Rattle.std.proofs.Common.{◌≡◌, ◌+◌, ◌-◌, ◌<◌, ◌≤◌, List, length, get_or, take, drop, sym, refl, ap, ◌∙◌, subst, ap₂, arith, rules}
+use Rattle.std.proofs.Common.{◌≡◌, ◌+◌, ◌-◌, ◌<◌, ◌≤◌, length, get_or, take, sym, refl, ap, ◌∙◌, subst, arith, rules}
 use Rattle.std.specs.List.{remove}
-use Rattle.std.proofs.lemmas.List.Edits.{paste_none}
 use Rattle.std.proofs.lemmas.List.{length-take, get_or-take, get_or_default}
 use Rattle.model.specs.Messages.{Added}
 use Rattle.queue.specs.Queues.{queued, lane}
@@ -8,8 +7,8 @@ use Rattle.queue.proofs.Lanes.{taken_out}
 use Rattle.queue.proofs.Shifting.{moved_up, moved_first, moved_more, moved_all}
 use Rattle.queue.proofs.queue.Queue.remove.Goals as goal
 
-pub offset-bounds-self-at : goal.offset-bounds-self-at
-offset-bounds-self-at c = search (rules, length-take)
+pub offset_bounds-self-at : goal.offset_bounds-self-at
+offset_bounds-self-at c = search (rules, length-take)
 
 pub loop-i-init : goal.loop-i-init
 loop-i-init c = (moved_first c.args.self.now.messages c.args.at, refl, refl)

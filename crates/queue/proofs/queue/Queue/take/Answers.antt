@@ -1,10 +1,15 @@
-use Rattle.std.proofs.Common.{rules}
+use Rattle.queue.proofs.Taken.{given_none, gives_none, given_some}
 use Rattle.queue.proofs.queue.Queue.take.Goals as goal
 
--- src/queue/changes.rt:53:21
 pub returns-in_err-place : goal.returns-in_err-place
-returns-in_err-place c = ?
+returns-in_err-place c =
+    let queue = c.args.self.now in
+    let n = c.args.node in
+    let past = c.in_err-place.ensures in
+    rw c.from_residual.ensures
+    (record { waiting = λ reaches. gives_none queue n c.args.ahead past reaches; choice = given_none queue n c.args.ahead past })
 
--- src/queue/changes.rt:49:5
 pub returns : goal.returns
-returns c = ?
+returns c =
+    let picked = c.remove.ensures c.args.node c.args.ahead c.in_ok-place.ensures in
+    record { waiting = λ reaches. picked.delivered; choice = given_some c.args.self.now c.remove.new.self c.args.node c.args.ahead c.remove.result picked }
