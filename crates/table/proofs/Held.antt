@@ -1,7 +1,7 @@
 -- What the sets and slots of a table say of a cell.
-use Rattle.std.proofs.Common.{◌≡◌, ℕ, zero, suc, ◌+◌, ◌*◌, ◌<◌, ◌≤◌, Bool, true, false, cond, ltb, ◌⊎◌, List, get_or, None, Option, sym, refl, ap, subst, inl, inr, arith}
-use Rattle.std.proofs.lemmas.Bool.{cases_lt, lt-ltb, le-ltb, and_from, and_right}
-use Rattle.model.specs.Cells.{Cell}
+use Rattle.std.proofs.Common.{◌≡◌, ℕ, zero, suc, ◌+◌, ◌*◌, ◌<◌, ◌≤◌, Bool, true, false, cond, ◌&&◌, ltb, ◌⊎◌, List, length, get_or, None, Option, sym, refl, ap, subst, inl, inr, arith}
+use Rattle.std.proofs.lemmas.Bool.{cases_lt, lt-ltb, le-ltb, and_from, and_right, false≢true}
+use Rattle.model.specs.Cells.{Cell, is_used, slots_of}
 use Rattle.model.specs.Cells.Cell.{free}
 use Rattle.model.specs.declared.reference.Reference.{Reference}
 use Rattle.table.specs.Tables.{in_set, four, cell_of, cells_of}
@@ -31,3 +31,14 @@ slot_of_four slots k (suc zero) h = refl
 slot_of_four slots k (suc (suc zero)) h = refl
 slot_of_four slots k (suc (suc (suc zero))) h = refl
 slot_of_four slots k (suc (suc (suc (suc i)))) h = absurd (omega arith)
+
+-- a cell in use has four slots
+pub sized : (t : Table) (n c : ℕ) → is_used (cells_of t n c) ≡ true → length (slots_of (cells_of t n c)) ≡ 4
+sized t n c = go (ltb n 16 && ltb c 64) (in_set t.free n c) (in_set t.black n c) (in_set t.grey n c) (256 * n + 4 * c)
+  where
+    go : (inside is_free black grey : Bool) (k : ℕ)
+        → is_used (cond inside (cell_of is_free black grey (four t.slots k)) free) ≡ true
+        → length (slots_of (cond inside (cell_of is_free black grey (four t.slots k)) free)) ≡ 4
+    go true false black grey k e = refl
+    go true true black grey k e = absurd (false≢true e)
+    go false is_free black grey k e = absurd (false≢true e)

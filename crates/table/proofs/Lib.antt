@@ -1,2 +1,2 @@
-mod Held
+pub mod Held
 mod Changed

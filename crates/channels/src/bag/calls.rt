@@ -3,8 +3,7 @@ ghost use Rattle.std.specs.Prelude.{◌≡◌, []};
 ghost use Rattle.model.specs.Channels.{Puts, Takes};
 ghost use Rattle.queue.specs.Queues.{PutsLast};
 ghost use Rattle.channels.specs.Channels.{bag_waiting, bag_capacity, TakesPicked};
-ghost use Rattle.queue.proofs.Held.{within_limit};
-ghost use Rattle.std.proofs.Common.{rules};
+ghost use Rattle.queue.proofs.Held.{roomy, within_limit};
 
 use super::Bag;
 use model::{Channel, Message, Refusal, ask};
@@ -26,7 +25,7 @@ impl Channel for Bag {
 
     ghost capacity = { bag_capacity };
 
-    ghost roomy = { Prim.search rules };
+    ghost roomy = { λ s. roomy s.queue };
 
     ghost held = { λ s. within_limit s.queue };
 

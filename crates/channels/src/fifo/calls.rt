@@ -3,8 +3,7 @@ ghost use Rattle.std.specs.Prelude.{◌≡◌, []};
 ghost use Rattle.model.specs.Channels.{Puts, Takes};
 ghost use Rattle.queue.specs.Queues.{PutsLast};
 ghost use Rattle.channels.specs.Channels.{fifo_waiting, fifo_capacity, TakesOldest};
-ghost use Rattle.queue.proofs.Held.{within_limit};
-ghost use Rattle.std.proofs.Common.{rules};
+ghost use Rattle.queue.proofs.Held.{roomy, within_limit};
 
 use super::Fifo;
 use model::{Channel, Message, Refusal, ask};
@@ -26,7 +25,7 @@ impl Channel for Fifo {
 
     ghost capacity = { fifo_capacity };
 
-    ghost roomy = { Prim.search rules };
+    ghost roomy = { λ s. roomy s.queue };
 
     ghost held = { λ s. within_limit s.queue };
 

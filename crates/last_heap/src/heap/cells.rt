@@ -3,7 +3,7 @@ ghost use Rattle.std.specs.Prelude.{◌≡◌};
 ghost use Rattle.model.specs.Cells.{all_free};
 ghost use Rattle.model.specs.Heaps.{Makes, WritesSlot, Shades, Blackens, AnswersGrey, Reclaims};
 ghost use Rattle.last_heap.specs.Last.{last_cells, Begins, Stays, MakesLast, ShadesLast, BlackensLast, AnswersNewest, ReclaimsLast};
-ghost use Rattle.std.proofs.Common.{rules, arith};
+ghost use Rattle.table.proofs.Held.{sized};
 
 use super::LastHeap;
 use model::{Colour, Heap, Reference, Refusal, ask};
@@ -11,7 +11,7 @@ use model::{Colour, Heap, Reference, Refusal, ask};
 impl Heap for LastHeap {
     ghost cells = { last_cells };
 
-    ghost sized = { first_of (Prim.search rules, Prim.grind (arith, Self.row.coded.inj)) };
+    ghost sized = { λ s. sized s.table };
 
     fn clear(&mut self)
         ensures cells { last_cells self.new ≡ all_free }

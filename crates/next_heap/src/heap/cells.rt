@@ -3,7 +3,7 @@ ghost use Rattle.std.specs.Prelude.{◌≡◌};
 ghost use Rattle.model.specs.Cells.{all_free};
 ghost use Rattle.model.specs.Heaps.{Makes, WritesSlot, Shades, Blackens, AnswersGrey, Reclaims};
 ghost use Rattle.next_heap.specs.Next.{next_cells, starts, at_zero, MakesNext, AnswersLowest};
-ghost use Rattle.std.proofs.Common.{rules};
+ghost use Rattle.table.proofs.Held.{sized};
 
 use super::NextHeap;
 use model::{Colour, Heap, Reference, Refusal, ask};
@@ -11,7 +11,7 @@ use model::{Colour, Heap, Reference, Refusal, ask};
 impl Heap for NextHeap {
     ghost cells = { next_cells };
 
-    ghost sized = { Prim.search rules };
+    ghost sized = { λ s. sized s.table };
 
     fn clear(&mut self)
         ensures cells { next_cells self.new ≡ all_free }
