@@ -1,19 +1,23 @@
 -- Stacks of which one node's is replaced, and stacks that are the same at every node.
 use Rattle.std.proofs.Common.{◌≡◌, ℕ, zero, suc, ◌<◌, cond, ltb, List, [], ◌∷◌, ◌++◌, map, length, get_or, set, replicate, Some, None, Option, sym, refl, ap, ◌∙◌, arith}
+use mathlib.Core.Path.{fun_ext}
 use Rattle.std.proofs.lemmas.Bool.Decides.{nat_tests}
 use Rattle.std.proofs.lemmas.List.{map-set, length-map, get_or-map, get_or-set_same, get_or-set_other, set-get_or}
 use Rattle.model.specs.Tables.{put}
 use Rattle.model.proofs.Puts.{is_put, put_here, put_there}
 use Rattle.cell_list.specs.Lists.{listed, Popped}
 use Rattle.cell_list.specs.declared.list.CellList.{CellList}
-use Rattle.last_heap.specs.Stacks.{stack, Takes}
+use Rattle.last_heap.specs.Stacks.{stack, at_nodes, Takes}
 use Rattle.last_heap.specs.declared.heap.stacks.Stacks.{Stacks}
 
 -- the same list at each of k nodes
-pub same_each : (k : ℕ) (list : CellList) (n : ℕ) → get_or (map listed (replicate k list)) n [] ≡ cond (ltb n k) (listed list) []
+same_each : (k : ℕ) (list : CellList) (n : ℕ) → get_or (map listed (replicate k list)) n [] ≡ cond (ltb n k) (listed list) []
 same_each zero list n = grind (arith, nat_tests)
 same_each (suc k) list zero = grind (arith, nat_tests)
 same_each (suc k) list (suc n) = same_each k list n ∙ ap (λ b. cond b (listed list) []) (grind (arith, nat_tests))
+
+pub same_stacks : (list : CellList) → stack (record { lists = replicate 16 list }) ≡ at_nodes (listed list)
+same_stacks list = fun_ext (same_each 16 list)
 
 module _ (stacks : Stacks) (n : ℕ) (near : n < length stacks.lists) where
   -- the stack of a node by its list

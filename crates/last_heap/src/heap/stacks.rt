@@ -15,6 +15,7 @@ pub(super) struct Stacks {
 
 impl Stacks {
     // The same cells for every node.
+    #[tactic(auto, using(crate::proofs::Replaced::same_stacks))]
     pub(super) fn each(list: CellList) -> Stacks
         ensures { stack result ≡ at_nodes (listed list) }
     {
