@@ -9,7 +9,7 @@ use Rattle.model.specs.References.{Names}
 use Rattle.model.specs.Refusals.{number}
 use Rattle.model.specs.declared.reference.Reference.{Reference}
 use Rattle.model.specs.declared.refusal.Refusal.{Refusal}
-use Rattle.model.specs.declared.refusal.Refusal.TheVariants.{NoSuchNode, NoSuchRegister, NoSuchSlot, NothingHeld, HeldElsewhere, StillWhite, NoFreeCell, ToItself, NoRoom, RoundNotOver, BadSize, NotActive, NotInTransit, TooManySent, NotInUse, NotGrey, OutOfRange}
+use Rattle.model.specs.declared.refusal.Refusal.TheVariants.{NoSuchNode, NoSuchSlot, NoFreeCell, ToItself, NoRoom, BadSize, NotActive, NotInTransit, TooManySent, NotInUse, NotGrey, OutOfRange}
 use Rattle.marking.specs.Reached.{Held, Named, Around, Reached}
 use Rattle.marking.specs.Reached.Reached.{held, grey, slot}
 use Rattle.marking.specs.Darkened.{is_dark, Darkened}
@@ -121,13 +121,8 @@ unmarked n roots before stays NoSuchSlot e near unused = omega arith
 unmarked n roots before stays NoFreeCell e near unused = omega arith
 unmarked n roots before stays NotGrey e near unused = omega arith
 unmarked n roots before stays OutOfRange e near unused = omega arith
-unmarked n roots before stays NoSuchRegister e near unused = omega arith
-unmarked n roots before stays NothingHeld e near unused = omega arith
-unmarked n roots before stays HeldElsewhere e near unused = omega arith
-unmarked n roots before stays StillWhite e near unused = omega arith
 unmarked n roots before stays ToItself e near unused = omega arith
 unmarked n roots before stays NoRoom e near unused = omega arith
-unmarked n roots before stays RoundNotOver e near unused = omega arith
 unmarked n roots before stays BadSize e near unused = omega arith
 unmarked n roots before stays NotActive e near unused = omega arith
 unmarked n roots before stays NotInTransit e near unused = omega arith

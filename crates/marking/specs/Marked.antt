@@ -5,7 +5,7 @@ use Rattle.model.specs.Cells.{Cells, is_grey, is_black}
 use Rattle.model.specs.Heaps.{in_use}
 use Rattle.model.specs.declared.reference.Reference.{Reference}
 use Rattle.model.specs.declared.refusal.Refusal.{Refusal}
-use Rattle.model.specs.declared.refusal.Refusal.TheVariants.{NoSuchNode, NoSuchRegister, NoSuchSlot, NothingHeld, HeldElsewhere, StillWhite, NoFreeCell, ToItself, NoRoom, RoundNotOver, BadSize, NotActive, NotInTransit, TooManySent, NotInUse, NotGrey, OutOfRange}
+use Rattle.model.specs.declared.refusal.Refusal.TheVariants.{NoSuchNode, NoSuchSlot, NoFreeCell, ToItself, NoRoom, BadSize, NotActive, NotInTransit, TooManySent, NotInUse, NotGrey, OutOfRange}
 use Rattle.cell_list.specs.Lists.{listed, Once}
 use Rattle.cell_list.specs.declared.list.CellList.{CellList}
 use Rattle.marking.specs.Reached.{Reached}
@@ -33,13 +33,8 @@ Unmarked NoSuchSlot n roots before stays = ⊥
 Unmarked NoFreeCell n roots before stays = ⊥
 Unmarked NotGrey n roots before stays = ⊥
 Unmarked OutOfRange n roots before stays = ⊥
-Unmarked NoSuchRegister n roots before stays = ⊥
-Unmarked NothingHeld n roots before stays = ⊥
-Unmarked HeldElsewhere n roots before stays = ⊥
-Unmarked StillWhite n roots before stays = ⊥
 Unmarked ToItself n roots before stays = ⊥
 Unmarked NoRoom n roots before stays = ⊥
-Unmarked RoundNotOver n roots before stays = ⊥
 Unmarked BadSize n roots before stays = ⊥
 Unmarked NotActive n roots before stays = ⊥
 Unmarked NotInTransit n roots before stays = ⊥

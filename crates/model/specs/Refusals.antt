@@ -2,20 +2,15 @@
 -- A question is its number and whether the answer is yes.
 use Rattle.std.specs.Prelude.{◌≡◌, ℕ, Bool, cond, List, [], ◌∷◌, Some, None, Ok, Err, Option, Result}
 use Rattle.model.specs.declared.refusal.Refusal.{Refusal}
-use Rattle.model.specs.declared.refusal.Refusal.TheVariants.{NoSuchNode, NoSuchRegister, NoSuchSlot, NothingHeld, HeldElsewhere, StillWhite, NoFreeCell, ToItself, NoRoom, RoundNotOver, BadSize, NotActive, NotInTransit, TooManySent, NotInUse, NotGrey, OutOfRange}
+use Rattle.model.specs.declared.refusal.Refusal.TheVariants.{NoSuchNode, NoSuchSlot, NoFreeCell, ToItself, NoRoom, BadSize, NotActive, NotInTransit, TooManySent, NotInUse, NotGrey, OutOfRange}
 
 -- the number that users see
 abbrev pub number : Refusal → ℕ
 number NoSuchNode = 1
-number NoSuchRegister = 2
 number NoSuchSlot = 3
-number NothingHeld = 4
-number HeldElsewhere = 5
-number StillWhite = 6
 number NoFreeCell = 7
 number ToItself = 8
 number NoRoom = 9
-number RoundNotOver = 10
 number BadSize = 11
 number NotActive = 12
 number NotInTransit = 13

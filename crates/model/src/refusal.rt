@@ -5,15 +5,10 @@ ghost use Rattle.model.specs.Refusals.{number};
 #[derive(Clone, Copy, Debug)]
 pub enum Refusal {
     NoSuchNode,
-    NoSuchRegister,
     NoSuchSlot,
-    NothingHeld,
-    HeldElsewhere,
-    StillWhite,
     NoFreeCell,
     ToItself,
     NoRoom,
-    RoundNotOver,
     BadSize,
     NotActive,
     NotInTransit,
@@ -30,15 +25,10 @@ impl Refusal {
     {
         match self {
             Refusal::NoSuchNode => 1,
-            Refusal::NoSuchRegister => 2,
             Refusal::NoSuchSlot => 3,
-            Refusal::NothingHeld => 4,
-            Refusal::HeldElsewhere => 5,
-            Refusal::StillWhite => 6,
             Refusal::NoFreeCell => 7,
             Refusal::ToItself => 8,
             Refusal::NoRoom => 9,
-            Refusal::RoundNotOver => 10,
             Refusal::BadSize => 11,
             Refusal::NotActive => 12,
             Refusal::NotInTransit => 13,
