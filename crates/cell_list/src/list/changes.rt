@@ -21,9 +21,8 @@ impl CellList {
     pub fn pop(&mut self) -> Option<u8>
         ensures { Popped self.old result self.new }
     {
-        let newest = self.last()?;
-        self.len -= 1;
-        Some(newest)
+        self.len = self.len.checked_sub(1)?;
+        Some(self.cells[self.len])
     }
 
     // Drops a cell wherever it stands; the others stay in order.
