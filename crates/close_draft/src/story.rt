@@ -2,7 +2,7 @@
 use crate::books::{HOST, InUse, enter, in_use, make, named};
 use crate::telling;
 use marking::mark;
-use model::{Heap, Reference};
+use model::{Heap, Reference, Tally};
 
 pub fn close_draft<H: Heap>(rt: &HostRuntime, heap: &mut H) -> anyhow::Result<()> {
     let drafts = enter(heap)?;
@@ -27,7 +27,7 @@ fn mark_from<H: Heap>(rt: &HostRuntime, heap: &mut H, root: Reference) -> anyhow
 
 fn reclaim<H: Heap>(rt: &HostRuntime, heap: &mut H) -> anyhow::Result<()> {
     let InUse { white, marked } = in_use(rt.alloc(), heap)?;
-    let (freed, kept) = heap.reclaim(HOST)?;
+    let Tally { freed, kept } = heap.reclaim(HOST)?;
     println!(rt; "What is still white is reclaimed: {freed} freed, {kept} kept.")?;
     telling::cells(rt, "  freed:", white.as_slice())?;
     telling::cells(rt, "  kept:", marked.as_slice())?;

@@ -7,6 +7,7 @@ use Rattle.model.specs.Cells.{Cell, Cells, all_free, empty_slots, reclaim}
 use Rattle.model.specs.Cells.Cell.{used}
 use Rattle.model.specs.Heaps.{make_asks, node_asks, Makes, Reclaims}
 use Rattle.model.specs.declared.colour.Colour.{Colour}
+use Rattle.model.specs.declared.tally.Tally.{Tally}
 use Rattle.model.specs.declared.colour.Colour.TheVariants.{White}
 use Rattle.model.specs.declared.refusal.Refusal.{Refusal}
 use Rattle.model.proofs.Puts.{put_here}
@@ -37,7 +38,7 @@ makes before after n c colour cells xs (Ok d) is top room (asked, made) (free, g
 makes before after n c colour cells xs (Err why) is top room (asked, same) stays =
     cc (ap (λ f. first_no (make_asks f n)) is)
 
-pub reclaims : (before after : LastHeap) (n : ℕ) (cells : Cells) (xs : List ℕ) (r : Result (ℕ × ℕ) Refusal)
+pub reclaims : (before after : LastHeap) (n : ℕ) (cells : Cells) (xs : List ℕ) (r : Result Tally Refusal)
     → last_cells before ≡ cells → frees before n ≡ xs → first_no (node_asks n) ≡ None
     → Reclaims last_cells before n r after → ReclaimsLast before n r after
     → (last_cells after ≡ reclaim cells n) × (frees after n ≡ xs ++ freed_cells (cells n))
@@ -67,7 +68,7 @@ module _ (heap once : LastHeap) (r : Result ℕ Refusal) (new : last_cells heap 
     unfolding first
     second_made = makes once twice 0 1 White (put₂ all_free 0 0 white) rest s first_made.cells first_made.free refl make_2 choice_2
 
-    pub higher_first : (swept again : LastHeap) (counts : Result (ℕ × ℕ) Refusal) (t : Result ℕ Refusal)
+    pub higher_first : (swept again : LastHeap) (counts : Result Tally Refusal) (t : Result ℕ Refusal)
         → Reclaims last_cells twice 0 counts swept → ReclaimsLast twice 0 counts swept
         → Makes last_cells swept 0 White t again → MakesLast swept 0 White t again → t ≡ Ok 1
     unfolding rising falling first

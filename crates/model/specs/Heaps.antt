@@ -6,6 +6,7 @@ use Rattle.model.specs.Refusals.{Questions, Answers}
 use Rattle.model.specs.Cells.{Cell, Cells, empty_slots, slots_of, is_free, is_used, is_grey, written, shaded, blackened, change, reclaim, freed_count, kept_count}
 use Rattle.model.specs.Cells.Cell.{free, used}
 use Rattle.model.specs.declared.colour.Colour.{Colour}
+use Rattle.model.specs.declared.tally.Tally.{Tally}
 use Rattle.model.specs.declared.reference.Reference.{Reference}
 use Rattle.model.specs.declared.refusal.Refusal.{Refusal}
 use Rattle.model.specs.declared.refusal.Refusal.TheVariants.{NoSuchNode, NoSuchSlot, NoFreeCell, NotInUse, NotGrey}
@@ -47,10 +48,10 @@ GreyCell cells n None = (c : ℕ) → c < 64 → is_grey (cells n c) ≡ false
 GreyCell cells n (Some c) = (c < 64) × (is_grey (cells n c) ≡ true)
 
 -- the cells of node n are reclaimed; the answer is how many were freed and how many kept
-pub record Reclaimed (before : Cells) (n : ℕ) (after : Cells) (counts : ℕ × ℕ) : Type 0 where
+pub record Reclaimed (before : Cells) (n : ℕ) (after : Cells) (counts : Tally) : Type 0 where
   pub cells : after ≡ reclaim before n
-  pub freed : counts.0 ≡ freed_count before n
-  pub kept : counts.1 ≡ kept_count before n
+  pub freed : counts.freed ≡ freed_count before n
+  pub kept : counts.kept ≡ kept_count before n
 
 -- what each call means of a heap whose cells are given by `cells`: before the call, its arguments, its answer, and the heap after it
 module _ {S : Type 0} (cells : S → Cells) where
@@ -76,5 +77,5 @@ module _ {S : Type 0} (cells : S → Cells) where
   abbrev pub AnswersGrey : S → ℕ → Result (Option ℕ) Refusal → Type 0
   AnswersGrey heap n r = Answers (node_asks n) r (Unit {0}) (GreyCell (cells heap) n)
 
-  abbrev pub Reclaims : S → ℕ → Result (ℕ × ℕ) Refusal → S → Type 0
+  abbrev pub Reclaims : S → ℕ → Result Tally Refusal → S → Type 0
   Reclaims before n r after = Answers (node_asks n) r (after ≡ before) (Reclaimed (cells before) n (cells after))
