@@ -1,2 +1,3 @@
 pub mod Held
-mod Changed
+pub mod Cells
+pub mod Nodes

@@ -1,0 +1,45 @@
+-- The cells of a table by its rows.
+use Rattle.std.proofs.Common.{◌≡◌, ℕ, zero, suc, ◌<◌, List, [], ◌∷◌, length, get_or, set, replicate, Some, sym, refl, ap, ◌∙◌}
+use Rattle.std.proofs.lemmas.List.{length-set, get_or-set_same, set-get_or}
+use mathlib.Core.Path.{fun_ext}
+use Rattle.std.proofs.lemmas.Option.{slice_get-get_or}
+use Rattle.std.specs.List.{slice_get}
+use Rattle.model.specs.Tables.{put}
+use Rattle.model.specs.Cells.{all_free}
+use Rattle.model.specs.Cells.Cell.{free}
+use Rattle.model.proofs.Puts.{is_put}
+use Rattle.table.specs.Rows.{row_cells}
+use Rattle.table.specs.Tables.{cells_at, cells_of}
+use Rattle.table.specs.declared.row.Row.{Row}
+use Rattle.table.specs.declared.table.Table.{Table}
+
+pub row_at : (t : Table) (n k : ℕ) (d : Row) → k ≡ n → k < length t.rows → row_cells (get_or t.rows k d) ≡ cells_of t n
+unfolding cells_of
+row_at t n k d same near = ap cells_at (sym (slice_get-get_or t.rows k d near) ∙ ap (slice_get t.rows) same)
+
+get_elsewhere : (rows : List Row) (n m : ℕ) (r : Row) → (m ≡ n → ⊥) → slice_get (set rows n r) m ≡ slice_get rows m
+get_elsewhere [] n m r off = refl
+get_elsewhere (x ∷ xs) zero zero r off = absurd (off refl)
+get_elsewhere (x ∷ xs) zero (suc m) r off = refl
+get_elsewhere (x ∷ xs) (suc n) zero r off = refl
+get_elsewhere (x ∷ xs) (suc n) (suc m) r off = get_elsewhere xs n m r (λ e. off (ap suc e))
+
+-- one row changes
+pub row_put : (t : Table) (n k : ℕ) (r : Row) → k ≡ n → k < length t.rows → cells_of (record { rows = set t.rows k r }) ≡ put (cells_of t) n (row_cells r)
+unfolding cells_of
+row_put t n k r same near =
+    rw (← same) (is_put (cells_of t) (cells_of (record { rows = set t.rows k r })) k (row_cells r)
+    (ap cells_at (slice_get-get_or (set t.rows k r) k r (simp length-set near) ∙ ap Some (get_or-set_same t.rows k r r near)))
+    (λ m off. ap cells_at (get_elsewhere t.rows k m r off)))
+
+pub ruleset rows = (row_at, row_put, set-get_or)
+
+-- where each row has free cells alone
+pub all_freed : (r : Row) → ((c : ℕ) → row_cells r c ≡ free) → cells_of (record { rows = replicate 16 r }) ≡ all_free
+unfolding cells_of
+all_freed r each = fun_ext (λ n. fun_ext (λ c. go 16 n c))
+  where
+    go : (k n c : ℕ) → cells_at (slice_get (replicate k r) n) c ≡ free
+    go zero n c = refl
+    go (suc k) zero c = each c
+    go (suc k) (suc n) c = go k n c
