@@ -5,13 +5,13 @@ use Rattle.std.specs.List.{slice_get}
 use Rattle.model.specs.Cells.{is_used, slots_of}
 use Rattle.model.specs.Cells.Cell.{free}
 use Rattle.cell_set.specs.Sets.{has}
-use Rattle.table.specs.Rows.{slots_at, cell_of, row_cells}
-use Rattle.table.specs.Tables.{cells_at, cells_of}
+use Rattle.table.specs.Rows.{four, slots_at, cell_of, row_cells}
+use Rattle.table.specs.Tables.{cells_at, rows_cells, cells_of}
 use Rattle.table.specs.declared.row.Row.{Row}
 use Rattle.table.specs.declared.table.Table.{Table}
 
 pub sized : (t : Table) (n c : ℕ) → is_used (cells_of t n c) ≡ true → length (slots_of (cells_of t n c)) ≡ 4
-unfolding row_cells cells_of
+unfolding four row_cells rows_cells
 sized t n c = at (slice_get t.rows n)
   where
     go : (row : Row) (inside is_free black grey : Bool)

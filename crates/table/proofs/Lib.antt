@@ -1,3 +1,3 @@
 pub mod Held
-pub mod Cells
-pub mod Nodes
+mod Cells
+mod Nodes

@@ -9,14 +9,15 @@ use Rattle.model.specs.Cells.{all_free}
 use Rattle.model.specs.Cells.Cell.{free}
 use Rattle.model.proofs.Puts.{is_put}
 use Rattle.table.specs.Rows.{row_cells}
-use Rattle.table.specs.Tables.{cells_at, cells_of}
+use Rattle.table.specs.Tables.{cells_at, rows_cells}
 use Rattle.table.specs.declared.row.Row.{Row}
-use Rattle.table.specs.declared.table.Table.{Table}
 
-pub row_at : (t : Table) (n k : ℕ) (d : Row) → k ≡ n → k < length t.rows → row_cells (get_or t.rows k d) ≡ cells_of t n
-unfolding cells_of
-row_at t n k d same near = ap cells_at (sym (slice_get-get_or t.rows k d near) ∙ ap (slice_get t.rows) same)
+-- node n has the cells of row n
+pub row_at : (rows : List Row) (n k : ℕ) (d : Row) → k ≡ n → k < length rows → row_cells (get_or rows k d) ≡ rows_cells rows n
+unfolding rows_cells
+row_at rows n k d same near = ap cells_at (sym (slice_get-get_or rows k d near) ∙ ap (slice_get rows) same)
 
+-- no other row changes
 get_elsewhere : (rows : List Row) (n m : ℕ) (r : Row) → (m ≡ n → ⊥) → slice_get (set rows n r) m ≡ slice_get rows m
 get_elsewhere [] n m r off = refl
 get_elsewhere (x ∷ xs) zero zero r off = absurd (off refl)
@@ -25,18 +26,19 @@ get_elsewhere (x ∷ xs) (suc n) zero r off = refl
 get_elsewhere (x ∷ xs) (suc n) (suc m) r off = get_elsewhere xs n m r (λ e. off (ap suc e))
 
 -- one row changes
-pub row_put : (t : Table) (n k : ℕ) (r : Row) → k ≡ n → k < length t.rows → cells_of (record { rows = set t.rows k r }) ≡ put (cells_of t) n (row_cells r)
-unfolding cells_of
-row_put t n k r same near =
-    rw (← same) (is_put (cells_of t) (cells_of (record { rows = set t.rows k r })) k (row_cells r)
-    (ap cells_at (slice_get-get_or (set t.rows k r) k r (simp length-set near) ∙ ap Some (get_or-set_same t.rows k r r near)))
-    (λ m off. ap cells_at (get_elsewhere t.rows k m r off)))
+pub row_put : (rows : List Row) (n k : ℕ) (r : Row) → k ≡ n → k < length rows → rows_cells (set rows k r) ≡ put (rows_cells rows) n (row_cells r)
+unfolding rows_cells
+row_put rows n k r same near =
+    rw (← same) (is_put (rows_cells rows) (rows_cells (set rows k r)) k (row_cells r)
+    (ap cells_at (slice_get-get_or (set rows k r) k r (simp length-set near) ∙ ap Some (get_or-set_same rows k r r near)))
+    (λ m off. ap cells_at (get_elsewhere rows k m r off)))
 
+-- and a row that is put back as it was changes nothing
 pub ruleset rows = (row_at, row_put, set-get_or)
 
 -- where each row has free cells alone
-pub all_freed : (r : Row) → ((c : ℕ) → row_cells r c ≡ free) → cells_of (record { rows = replicate 16 r }) ≡ all_free
-unfolding cells_of
+pub all_freed : (r : Row) → ((c : ℕ) → row_cells r c ≡ free) → rows_cells (replicate 16 r) ≡ all_free
+unfolding rows_cells
 all_freed r each = fun_ext (λ n. fun_ext (λ c. go 16 n c))
   where
     go : (k n c : ℕ) → cells_at (slice_get (replicate k r) n) c ≡ free

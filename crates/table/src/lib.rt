@@ -2,6 +2,7 @@
 #![tactic(auto)]
 
 mod row;
+mod slots;
 mod table;
 
 pub use table::Table;

@@ -2,8 +2,8 @@
 mod changing;
 mod reading;
 
+use crate::slots::Slots;
 use cell_set::CellSet;
-use model::Reference;
 
 #[derive(Clone, Copy)]
 pub(crate) struct Row {
@@ -11,10 +11,4 @@ pub(crate) struct Row {
     black: CellSet,
     grey: CellSet,
     slots: [Slots; 64],
-}
-
-// The slots of a cell.
-#[derive(Clone, Copy)]
-pub(crate) struct Slots {
-    held: [Option<Reference>; 4],
 }

@@ -6,13 +6,14 @@ ghost use Rattle.model.specs.Cells.{empty_slots, is_used, is_white, written, sha
 ghost use Rattle.model.specs.Cells.Cell.{free, used};
 ghost use Rattle.table.specs.Rows.{row_cells, use_asks, row_slot_asks, grey_asks};
 
-use super::{Row, Slots};
+use super::Row;
+use crate::slots::Slots;
 use cell_set::CellSet;
 use model::{Colour, Reference, Refusal, ask};
 
 impl Row {
-    #[tactic(auto, using(crate::proofs::Cells::all_freed))]
     // Every cell is free.
+    #[tactic(auto, using(crate::proofs::Cells::all_freed))]
     pub(crate) fn new() -> Row
         ensures { (c : ℕ) → row_cells result c ≡ free }
     {
@@ -20,12 +21,12 @@ impl Row {
             free: CellSet::all(),
             black: CellSet::none(),
             grey: CellSet::none(),
-            slots: [Slots { held: [None; 4] }; 64],
+            slots: [Slots::empty(); 64],
         }
     }
 
-    #[tactic(auto, using(crate::proofs::Cells::writes))]
     // Fills or empties a slot.
+    #[tactic(auto, using(crate::proofs::Cells::writes))]
     pub(crate) fn set_slot(
         &mut self,
         cell: u8,
@@ -36,13 +37,12 @@ impl Row {
     {
         ask(slot < 4, Refusal::NoSuchSlot)?;
         self.ask_in_use(cell)?;
-        let slots = &mut self.slots[usize::from(cell)];
-        slots.held[usize::from(slot)] = what;
+        self.slots[usize::from(cell)].fill(slot, what);
         Ok(())
     }
 
-    #[tactic(auto, using(crate::proofs::Cells::shades))]
     // Turns a white cell grey, and leaves any other: a black cell is black, whether it is among the grey ones or not.
+    #[tactic(auto, using(crate::proofs::Cells::shades))]
     pub(crate) fn shade(&mut self, cell: u8) -> Result<(), Refusal>
         ensures { Answers (use_asks (row_cells self.old) cell) result (self.new ≡ self.old) (λ _. row_cells self.new ≡ put (row_cells self.old) cell (shaded (row_cells self.old cell))) }
     {
@@ -51,8 +51,8 @@ impl Row {
         Ok(())
     }
 
-    #[tactic(auto, using(crate::proofs::Cells::blackens))]
     // Turns a grey cell black.
+    #[tactic(auto, using(crate::proofs::Cells::blackens))]
     pub(crate) fn blacken(&mut self, cell: u8) -> Result<(), Refusal>
         ensures { Answers (grey_asks (row_cells self.old) cell) result (self.new ≡ self.old) (λ _. row_cells self.new ≡ put (row_cells self.old) cell (blackened (row_cells self.old cell))) }
     {
@@ -68,26 +68,19 @@ impl Row {
     {
         if cell < 64 {
             self.free.remove(cell);
-            self.slots[usize::from(cell)] = Slots { held: [None; 4] };
+            self.black.remove(cell);
+            self.grey.remove(cell);
+            self.slots[usize::from(cell)] = Slots::empty();
             match colour {
-                Colour::White => {
-                    self.black.remove(cell);
-                    self.grey.remove(cell);
-                }
-                Colour::Grey => {
-                    self.black.remove(cell);
-                    self.grey.insert(cell);
-                }
-                Colour::Black => {
-                    self.black.insert(cell);
-                    self.grey.remove(cell);
-                }
+                Colour::White => {}
+                Colour::Grey => self.grey.insert(cell),
+                Colour::Black => self.black.insert(cell),
             }
         }
     }
 
-    #[tactic(auto, using(crate::proofs::Cells::reclaims))]
     // Frees the white cells and turns the others white; answers how many it freed and how many it kept.
+    #[tactic(auto, using(crate::proofs::Cells::reclaims))]
     pub(crate) fn reclaim(&mut self) -> (u8, u8)
         ensures cells { row_cells self.new ≡ (λ c. reclaimed (row_cells self.old c)) }
         ensures freed { result.0 ≡ total 64 (λ c. one (is_white (row_cells self.old c))) }

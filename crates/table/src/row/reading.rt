@@ -59,8 +59,7 @@ impl Row {
     {
         ask(slot < 4, Refusal::NoSuchSlot)?;
         self.ask_in_use(cell)?;
-        let slots = &self.slots[usize::from(cell)];
-        Ok(slots.held[usize::from(slot)])
+        Ok(self.slots[usize::from(cell)].held(slot))
     }
 
     // Is there such a cell, and is it in use?

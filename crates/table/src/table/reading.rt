@@ -47,8 +47,8 @@ impl Table {
         self.row(node)?.slot(cell, slot)
     }
 
-    #[tactic(auto, using(crate::proofs::Nodes::rows))]
     // The node's row.
+    #[tactic(auto, using(crate::proofs::Nodes::rows))]
     fn row(&self, node: u8) -> Result<&Row, Refusal>
         ensures { Answers (node_asks node) result (Unit {0}) (λ row. (node < 16) × (row_cells row.now ≡ cells_of self.now node)) }
     {

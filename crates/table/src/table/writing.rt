@@ -12,8 +12,8 @@ use model::{Colour, Reference, Refusal, ask};
 
 #[tactic(auto, using(crate::proofs::Nodes::rows))]
 impl Table {
-    #[tactic(auto, using(crate::proofs::Nodes::all_freed))]
     // Every cell is free.
+    #[tactic(auto, using(crate::proofs::Nodes::all_freed))]
     pub fn new() -> Table
         ensures { cells_of result ≡ all_free }
     {
