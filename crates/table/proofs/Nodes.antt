@@ -12,10 +12,10 @@ use Rattle.table.specs.Rows.{row_cells}
 use Rattle.table.specs.Tables.{cells_at, rows_cells}
 use Rattle.table.specs.declared.row.Row.{Row}
 
--- node n has the cells of row n
-pub row_at : (rows : List Row) (n k : ℕ) (d : Row) → k ≡ n → k < length rows → row_cells (get_or rows k d) ≡ rows_cells rows n
+-- a node has the cells of its row
+pub row_at : (rows : List Row) (n : ℕ) (d : Row) → n < length rows → row_cells (get_or rows n d) ≡ rows_cells rows n
 unfolding rows_cells
-row_at rows n k d same near = ap cells_at (sym (slice_get-get_or rows k d near) ∙ ap (slice_get rows) same)
+row_at rows n d near = ap cells_at (sym (slice_get-get_or rows n d near))
 
 -- no other row changes
 get_elsewhere : (rows : List Row) (n m : ℕ) (r : Row) → (m ≡ n → ⊥) → slice_get (set rows n r) m ≡ slice_get rows m
@@ -26,12 +26,12 @@ get_elsewhere (x ∷ xs) (suc n) zero r off = refl
 get_elsewhere (x ∷ xs) (suc n) (suc m) r off = get_elsewhere xs n m r (λ e. off (ap suc e))
 
 -- one row changes
-pub row_put : (rows : List Row) (n k : ℕ) (r : Row) → k ≡ n → k < length rows → rows_cells (set rows k r) ≡ put (rows_cells rows) n (row_cells r)
+pub row_put : (rows : List Row) (n : ℕ) (r : Row) → n < length rows → rows_cells (set rows n r) ≡ put (rows_cells rows) n (row_cells r)
 unfolding rows_cells
-row_put rows n k r same near =
-    rw (← same) (is_put (rows_cells rows) (rows_cells (set rows k r)) k (row_cells r)
-    (ap cells_at (slice_get-get_or (set rows k r) k r (simp length-set near) ∙ ap Some (get_or-set_same rows k r r near)))
-    (λ m off. ap cells_at (get_elsewhere rows k m r off)))
+row_put rows n r near =
+    is_put (rows_cells rows) (rows_cells (set rows n r)) n (row_cells r)
+    (ap cells_at (slice_get-get_or (set rows n r) n r (simp length-set near) ∙ ap Some (get_or-set_same rows n r r near)))
+    (λ m off. ap cells_at (get_elsewhere rows n m r off))
 
 -- and a row that is put back as it was changes nothing
 pub ruleset rows = (row_at, row_put, set-get_or)
