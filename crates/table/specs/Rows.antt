@@ -7,6 +7,7 @@ use Rattle.model.specs.Cells.Cell.{free, used}
 use Rattle.model.specs.declared.colour.Colour.{Colour}
 use Rattle.model.specs.declared.colour.Colour.TheVariants.{White, Grey, Black}
 use Rattle.model.specs.declared.reference.Reference.{Reference}
+use Rattle.model.specs.declared.refusal.Refusal.TheVariants.{NoSuchSlot, NotInUse, NotGrey}
 use Rattle.cell_set.specs.Sets.{has}
 use Rattle.table.specs.declared.row.Row.{Row}
 use Rattle.table.specs.declared.slots.Slots.{Slots}
@@ -36,10 +37,10 @@ abbrev pub in_use_here : (ℕ → Cell) → ℕ → Bool
 in_use_here cells c = nat_lt c 64 && is_used (cells c)
 
 abbrev pub use_asks : (ℕ → Cell) → ℕ → Questions
-use_asks cells c = (15, in_use_here cells c) ∷ []
+use_asks cells c = (NotInUse, in_use_here cells c) ∷ []
 
 abbrev pub row_slot_asks : (ℕ → Cell) → ℕ → ℕ → Questions
-row_slot_asks cells c i = (3, nat_lt i 4) ∷ use_asks cells c
+row_slot_asks cells c i = (NoSuchSlot, nat_lt i 4) ∷ use_asks cells c
 
 abbrev pub grey_asks : (ℕ → Cell) → ℕ → Questions
-grey_asks cells c = (15, in_use_here cells c) ∷ (16, is_grey (cells c)) ∷ []
+grey_asks cells c = (NotInUse, in_use_here cells c) ∷ (NotGrey, is_grey (cells c)) ∷ []

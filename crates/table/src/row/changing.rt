@@ -9,7 +9,7 @@ ghost use Rattle.table.specs.Rows.{row_cells, use_asks, row_slot_asks, grey_asks
 use super::Row;
 use crate::slots::Slots;
 use cell_set::CellSet;
-use model::{Colour, Reference, Refusal, ask};
+use model::{Colour, Reference, Refusal, Tally, ask};
 
 impl Row {
     // Every cell is free.
@@ -81,16 +81,19 @@ impl Row {
 
     // Frees the white cells and turns the others white; answers how many it freed and how many it kept.
     #[tactic(auto, using(crate::proofs::Cells::reclaims))]
-    pub(crate) fn reclaim(&mut self) -> (u8, u8)
+    pub(crate) fn reclaim(&mut self) -> Tally
         ensures cells { row_cells self.new ≡ (λ c. reclaimed (row_cells self.old c)) }
-        ensures freed { result.0 ≡ total 64 (λ c. one (is_white (row_cells self.old c))) }
-        ensures kept { result.1 ≡ total 64 (λ c. one (is_used (reclaimed (row_cells self.old c)))) }
+        ensures freed { result.freed ≡ total 64 (λ c. one (is_white (row_cells self.old c))) }
+        ensures kept { result.kept ≡ total 64 (λ c. one (is_used (reclaimed (row_cells self.old c)))) }
     {
         let freed = self.white();
         let kept = self.kept();
         self.free = kept.others();
         self.black = CellSet::none();
         self.grey = CellSet::none();
-        (freed.count(), kept.count())
+        Tally {
+            freed: freed.count(),
+            kept: kept.count(),
+        }
     }
 }

@@ -8,7 +8,7 @@ ghost use Rattle.table.specs.Tables.{cells_of};
 
 use super::Table;
 use crate::row::Row;
-use model::{Colour, Reference, Refusal, ask};
+use model::{Colour, Reference, Refusal, Tally, ask};
 
 #[tactic(auto, using(crate::proofs::Nodes::rows))]
 impl Table {
@@ -69,7 +69,7 @@ impl Table {
     }
 
     // Frees the node's white cells and turns its others white; answers how many it freed and how many it kept.
-    pub fn reclaim(&mut self, node: u8) -> Result<(u8, u8), Refusal>
+    pub fn reclaim(&mut self, node: u8) -> Result<Tally, Refusal>
         ensures { Reclaims cells_of self.old node result self.new }
     {
         ask(node < 16, Refusal::NoSuchNode)?;
