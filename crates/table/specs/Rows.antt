@@ -2,7 +2,7 @@
 -- A look past the end of an array gives empty slots.
 use Rattle.std.specs.Prelude.{ℕ, Bool, cond, ◌&&◌, List, [], ◌∷◌, None, Option, nat_lt, slice_index_or}
 use Rattle.model.specs.Refusals.{Questions}
-use Rattle.model.specs.Cells.{Cell, is_used, is_grey}
+use Rattle.model.specs.Cells.{Cell, empty_slots, is_used, is_grey}
 use Rattle.model.specs.Cells.Cell.{free, used}
 use Rattle.model.specs.declared.colour.Colour.{Colour}
 use Rattle.model.specs.declared.colour.Colour.TheVariants.{White, Grey, Black}
@@ -14,10 +14,10 @@ use Rattle.table.specs.declared.slots.Slots.{Slots}
 
 -- the slots of a cell, in order
 unfoldable pub four : Slots → List (Option Reference)
-four slots = slots.first ∷ slots.second ∷ slots.third ∷ slots.fourth ∷ []
+four slots = slice_index_or slots.held 0 None ∷ slice_index_or slots.held 1 None ∷ slice_index_or slots.held 2 None ∷ slice_index_or slots.held 3 None ∷ []
 
 abbrev pub no_slots : Slots
-no_slots = record { first = None; second = None; third = None; fourth = None }
+no_slots = record { held = empty_slots }
 
 abbrev pub slots_at : Row → ℕ → List (Option Reference)
 slots_at row c = four (slice_index_or row.slots c no_slots)

@@ -1,4 +1,4 @@
-// The slots of one cell, 0 to 3.
+// The slots of one cell.
 ghost use Rattle.std.specs.Prelude.{◌≡◌, None, slice_index_or, slice_set};
 ghost use Rattle.model.specs.Cells.{empty_slots};
 ghost use Rattle.table.specs.Rows.{four};
@@ -7,10 +7,7 @@ use model::Reference;
 
 #[derive(Clone, Copy)]
 pub(crate) struct Slots {
-    first: Option<Reference>,
-    second: Option<Reference>,
-    third: Option<Reference>,
-    fourth: Option<Reference>,
+    held: [Option<Reference>; 4],
 }
 
 #[tactic(auto, unfolding(crate::specs::Rows::four))]
@@ -18,37 +15,22 @@ impl Slots {
     pub(crate) fn empty() -> Slots
         ensures { four result ≡ empty_slots }
     {
-        Slots {
-            first: None,
-            second: None,
-            third: None,
-            fourth: None,
-        }
+        Slots { held: [None; 4] }
     }
 
     // What a slot holds.
     pub(crate) fn held(&self, slot: u8) -> Option<Reference>
         ensures { result ≡ slice_index_or (four self.now) slot None }
     {
-        match slot {
-            0 => self.first,
-            1 => self.second,
-            2 => self.third,
-            3 => self.fourth,
-            _ => None,
-        }
+        self.held.get(usize::from(slot)).copied().flatten()
     }
 
-    // Fills or empties a slot.
+    // Fills or empties a slot, if there is one of that number.
     pub(crate) fn fill(&mut self, slot: u8, what: Option<Reference>)
         ensures { four self.new ≡ slice_set (four self.old) slot what }
     {
-        match slot {
-            0 => self.first = what,
-            1 => self.second = what,
-            2 => self.third = what,
-            3 => self.fourth = what,
-            _ => {}
+        if slot < 4 {
+            self.held[usize::from(slot)] = what;
         }
     }
 }
