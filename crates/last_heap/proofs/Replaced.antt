@@ -19,26 +19,26 @@ same_each (suc k) list (suc n) = same_each k list n ∙ ap (λ b. cond b (listed
 pub same_stacks : (list : CellList) → stack (record { lists = replicate 16 list }) ≡ at_nodes (listed list)
 same_stacks list = fun_ext (same_each 16 list)
 
-module _ (stacks : Stacks) (n : ℕ) (near : n < length stacks.lists) where
-  -- the stack of a node by its list
-  pub stack_at : (default : CellList) → stack stacks n ≡ listed (get_or stacks.lists n default)
-  stack_at default = get_or-map listed stacks.lists n default [] near
+module _ (stacks : Stacks) (n : ℕ) (near : n < length stacks.lists) (default list : CellList) where
+  abbrev after : Stacks
+  after = record { lists = set stacks.lists n list }
 
-  pub replaced : (list : CellList) (xs : List ℕ) → listed list ≡ xs → stack (record { lists = set stacks.lists n list }) ≡ put (stack stacks) n xs
-  replaced list xs e =
-      is_put (stack stacks) (stack (record { lists = set stacks.lists n list })) n xs
-      (ap (λ all. get_or all n []) (map-set listed stacks.lists n list) ∙ get_or-set_same (map listed stacks.lists) n (listed list) [] (rw length-map near) ∙ e)
+  -- the stack of a node by its list
+  pub stack_at : stack stacks n ≡ listed (get_or stacks.lists n default)
+  stack_at = get_or-map listed stacks.lists n default [] near
+
+  -- a node's list is another, which is made of the one that it was
+  pub replaced : (f : List ℕ → List ℕ) → listed list ≡ f (listed (get_or stacks.lists n default)) → stack after ≡ put (stack stacks) n (f (stack stacks n))
+  replaced f e =
+      is_put (stack stacks) (stack after) n (f (stack stacks n))
+      (ap (λ all. get_or all n []) (map-set listed stacks.lists n list) ∙ get_or-set_same (map listed stacks.lists) n (listed list) [] (rw length-map near) ∙ e ∙ ap f (sym stack_at))
       (λ m off. ap (λ all. get_or all m []) (map-set listed stacks.lists n list) ∙ get_or-set_other (map listed stacks.lists) n m (listed list) [] off)
 
   -- a node's list is popped
-  pub takes : (default after : CellList) (r : Option ℕ) → Popped (get_or stacks.lists n default) r after → Takes stacks n r (record { lists = set stacks.lists n after })
-  takes default after None (none, same) = (
-    stack_at default ∙ none,
-    ap (λ lists. record { lists = lists }) (ap (set stacks.lists n) same ∙ set-get_or stacks.lists n default),
-  )
-  takes default after (Some c) more =
-      let rest : Stacks = record { lists = set stacks.lists n after } in
-      let changed = replaced after (listed after) refl in
-      is_put (stack rest) (stack stacks) n (stack rest n ++ (c ∷ []))
-      (stack_at default ∙ more ∙ ap (λ xs. xs ++ (c ∷ [])) (sym (ap (λ f. f n) changed ∙ put_here (stack stacks) n (listed after))))
-      (λ m off. sym (ap (λ f. f m) changed ∙ put_there (stack stacks) n (listed after) m off))
+  pub takes : (r : Option ℕ) → Popped (get_or stacks.lists n default) r list → Takes stacks n r after
+  takes None (none, same) = (stack_at ∙ none, ap (λ lists. record { lists = lists }) (ap (set stacks.lists n) same ∙ set-get_or stacks.lists n default))
+  takes (Some c) more =
+      let changed = replaced (λ _. listed list) refl in
+      is_put (stack after) (stack stacks) n (stack after n ++ (c ∷ []))
+      (stack_at ∙ more ∙ ap (λ xs. xs ++ (c ∷ [])) (sym (ap (λ f. f n) changed ∙ put_here (stack stacks) n (listed list))))
+      (λ m off. sym (ap (λ f. f m) changed ∙ put_there (stack stacks) n (listed list) m off))

@@ -1,6 +1,4 @@
-use Rattle.std.proofs.Common.{◌≡◌, ◌<◌, [], ◌∷◌, ◌++◌, length, get_or, sym, ap, ◌∙◌, subst, rules}
-use Rattle.cell_list.specs.Lists.{listed}
-use Rattle.last_heap.specs.Stacks.{stack}
+use Rattle.std.proofs.Common.{◌<◌, [], ◌∷◌, ◌++◌, length, get_or, subst, rules}
 use Rattle.cell_list.proofs.Counted.{pushed}
 use Rattle.last_heap.proofs.Replaced.{stack_at, replaced}
 use Rattle.last_heap.proofs.heap.stacks.Stacks.push.Goals as goal
@@ -8,10 +6,9 @@ use Rattle.last_heap.proofs.heap.stacks.Stacks.push.Goals as goal
 pub returns : goal.returns
 returns c =
     let stacks = c.args.self.now in
-    let n = c.args.node in
-    let cell = c.args.cell in
+    let n = c.args.node.number in
+    let old = c.index-self-node.result in
+    let new = c.push.new.self in
     let near : n < length stacks.lists = search rules in
-    let list = get_or stacks.lists n c.index-self-node.result in
-    let here : stack stacks n ≡ listed list = stack_at stacks n near c.index-self-node.result in
-    replaced stacks n near c.push.new.self (stack stacks n ++ (cell ∷ []))
-    (pushed list c.push.new.self cell c.push.result (subst (λ xs. length xs < 64) here c.requires.room) c.push.ensures ∙ ap (λ xs. xs ++ (cell ∷ [])) (sym here))
+    let room = subst (λ xs. length xs < 64) (stack_at stacks n near old new) c.requires in
+    replaced stacks n near old new (λ xs. xs ++ (c.args.cell ∷ [])) (pushed (get_or stacks.lists n old) new c.args.cell c.push.result room c.push.ensures)
