@@ -1,11 +1,13 @@
 -- The cells that a heap which goes round chooses.
-use Rattle.std.proofs.Common.{◌≡◌, ℕ, ◌<◌, Bool, true, false, cond, ◌&&◌, ltb, leb, Some, None, ok_or, Option, sym, refl, ap, ◌∙◌, subst, ap₂}
+use Rattle.std.proofs.Common.{◌≡◌, ℕ, ◌<◌, Bool, true, false, cond, ◌&&◌, ltb, leb, List, length, get_or, set, Some, None, ok_or, Option, sym, refl, ap, ◌∙◌, subst, ap₂, arith}
+use Rattle.std.proofs.lemmas.List.{get_or-set_same, get_or-set_other}
 use Rattle.std.proofs.lemmas.Bool.{lt-ltb, and_parts}
-use Rattle.model.specs.Tables.{first, or_else, is_some}
+use Rattle.model.specs.Tables.{put, first, or_else, is_some}
 use Rattle.model.specs.Refusals.{Answers}
 use Rattle.model.specs.Cells.{Cells, is_free, is_grey}
 use Rattle.model.specs.Heaps.{make_asks, GreyCell}
 use Rattle.model.specs.declared.refusal.Refusal.TheVariants.{NoSuchNode, NoFreeCell}
+use Rattle.model.proofs.Puts.{is_put}
 use Rattle.model.proofs.Firsts.{Found, first_same, first_found, first_is_some}
 use Rattle.model.proofs.Colours.{from_free}
 use Rattle.cell_set.specs.Sets.{has}
@@ -56,3 +58,8 @@ module _ (heap : NextHeap) (n : ℕ) where
 pub grey_lowest : (cells : Cells) (n : ℕ) (set : CellSet) (r : Option ℕ) → ((c : ℕ) → has set c ≡ is_grey (cells n c)) → r ≡ first 64 (has set) → GreyCell cells n r
 grey_lowest cells n set r greys is =
     subst (GreyCell cells n) (sym (is ∙ first_same 64 (has set) (λ c. is_grey (cells n c)) (λ c h. greys c))) (first_found 64 (λ c. is_grey (cells n c)))
+
+-- where node n starts is changed
+pub started : (xs : List ℕ) (n start m : ℕ) → length xs ≡ 16 → n < 16 → get_or (set xs n start) m 0 ≡ put (λ k. get_or xs k 0) n start m
+started xs n start m wide near =
+    ap (λ f. f m) (is_put (λ k. get_or xs k 0) (λ k. get_or (set xs n start) k 0) n start (get_or-set_same xs n start 0 (omega arith)) (λ k off. get_or-set_other xs n k start 0 off))

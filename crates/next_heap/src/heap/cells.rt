@@ -21,6 +21,7 @@ impl Heap for NextHeap {
         self.start = [0; 16];
     }
 
+    #[tactic(auto, using(crate::proofs::Chosen::started))]
     fn make(&mut self, node: u8, colour: Colour) -> Result<u8, Refusal>
         ensures cells { Makes next_cells self.old node colour result self.new }
         ensures choice { MakesNext self.old node result self.new }
