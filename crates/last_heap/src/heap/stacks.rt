@@ -14,9 +14,9 @@ pub(super) struct Stacks {
     lists: [CellList; 16],
 }
 
+#[tactic(auto, using(crate::proofs::Replaced::same_stacks, crate::proofs::Replaced::set_list, crate::proofs::Replaced::list_at))]
 impl Stacks {
     // The same cells for every node.
-    #[tactic(auto, using(crate::proofs::Replaced::same_stacks))]
     pub(super) fn each(list: CellList) -> Stacks
         ensures { stack result ≡ at_nodes (listed list) }
     {
