@@ -3,8 +3,6 @@ use Rattle.std.proofs.Common.{◌≡◌, ℕ, ◌+◌, ◌<◌, ◌≤◌, Bool,
 use Rattle.std.proofs.lemmas.Bool.{lt-ltb, ltb-true, and_right, and_parts, cond-true}
 use Rattle.model.specs.Tables.{put, one}
 use Rattle.model.specs.Cells.{Cell, Cells, all_free, is_free, is_grey, is_white, written, reclaimed, change, reclaim}
-use Rattle.model.specs.Cells.Cell.{free, used}
-use Rattle.model.specs.declared.colour.Colour.TheVariants.{White, Grey, Black}
 use Rattle.model.specs.declared.reference.Reference.{Reference}
 use Rattle.model.specs.declared.refusal.Refusal.{Refusal}
 use Rattle.model.specs.Heaps.{GreyCell, WritesSlot}
@@ -14,6 +12,7 @@ use Rattle.cell_list.proofs.Counted.{in_list, once_none, once_same, once_push, o
 use Rattle.table.specs.Tables.{cells_of}
 use Rattle.table.specs.declared.table.Table.{Table}
 use Rattle.last_heap.specs.Stacks.{at_nodes, on_top, falling, rising, Stacked}
+use Rattle.last_heap.proofs.Changes.{reclaimed_free, reclaimed_grey}
 use Rattle.last_heap.proofs.Ranges.{once_falling, once_rising}
 
 -- cell c passes
@@ -110,28 +109,13 @@ begins_grey cells_are stacks_are =
       once = λ n near. subst (Once (λ c. ltb c 64 && false)) (sym (cond-true (ltb n 16) [] [] (lt-ltb n 16 near))) (λ c. ap one (sym (and_right (ltb c 64) false refl)));
     })
 
--- a reclaimed cell is free if it was free or white
-freed : (b : Bool) (x : Cell) → one (b && is_free x) + one (b && is_white x) ≡ one (b && is_free (reclaimed x))
-freed false x = refl
-freed true free = refl
-freed true (used White slots) = refl
-freed true (used Grey slots) = refl
-freed true (used Black slots) = refl
-
--- no reclaimed cell is grey
-no_grey : (x : Cell) → is_grey (reclaimed x) ≡ false
-no_grey free = refl
-no_grey (used White slots) = refl
-no_grey (used Grey slots) = refl
-no_grey (used Black slots) = refl
-
 -- the white cells of node n come on top of its free ones
 module _ {cells : Cells} {stacks : ℕ → List ℕ} (old : Stacked is_free cells stacks) (n : ℕ) (white : ℕ → Bool) (is_white_at : (c : ℕ) → white c ≡ is_white (cells n c)) where
   once_freed : n < 16 → Once (passing is_free (λ c. reclaimed (cells n c))) (stacks n ++ rising 64 white)
   once_freed near c =
       times_append c (stacks n) (rising 64 white)
       ∙ ap₂ ◌+◌ (old.once n near c) (once_rising 64 white c ∙ ap (λ b. one (ltb c 64 && b)) (is_white_at c))
-      ∙ freed (ltb c 64) (cells n c)
+      ∙ reclaimed_free (ltb c 64) (cells n c)
 
   pub freed_room : n < 16 → length (stacks n ++ rising 64 white) ≤ 64
   freed_room near = short 64 (stacks n ++ rising 64 white) (λ c. is_free (reclaimed (cells n c))) (once_freed near)
@@ -141,4 +125,4 @@ module _ {cells : Cells} {stacks : ℕ → List ℕ} (old : Stacked is_free cell
 
 pub reclaims_grey : {cells after : Cells} {stacks others : ℕ → List ℕ} → Stacked is_grey cells stacks → (n : ℕ) → after ≡ reclaim cells n → others ≡ put stacks n [] → Stacked is_grey after others
 reclaims_grey {cells} old n reclaimed_now is =
-    at_node old n (λ c. reclaimed (cells n c)) [] reclaimed_now is (λ near c. ap one (sym (and_right _ _ (no_grey (cells n c)))))
+    at_node old n (λ c. reclaimed (cells n c)) [] reclaimed_now is (λ near c. ap one (sym (and_right _ _ (reclaimed_grey (cells n c)))))

@@ -3,7 +3,7 @@ ghost use Rattle.std.specs.Prelude.{◌≡◌};
 ghost use Rattle.model.specs.Cells.{all_free};
 ghost use Rattle.model.specs.Heaps.{GreyCell};
 ghost use Rattle.cell_list.specs.Lists.{Newest};
-ghost use Rattle.last_heap.specs.Last.{last_cells, greys, Begins, TakesFree};
+ghost use Rattle.last_heap.specs.Last.{last_cells, greys, Begins, TakesFree, TakesLast};
 
 use super::LastHeap;
 use super::node::Node;
@@ -27,7 +27,8 @@ impl LastHeap {
 
     // Takes the top free cell into use, if there is one.
     pub(super) fn take(&mut self, node: Node, colour: Colour) -> Option<u8>
-        ensures { TakesFree self.old node.number colour result self.new }
+        ensures cells { TakesFree self.old node.number colour result self.new }
+        ensures choice { TakesLast self.old node.number colour result self.new }
     {
         let cell = self.free.pop(node)?;
         self.table.occupy(node.number, cell, colour);

@@ -1,12 +1,9 @@
-use Rattle.std.proofs.Common.{refl, ◌∙◌}
+use Rattle.std.proofs.Common.{◌∙◌}
 use Rattle.last_heap.proofs.Making.{making, none_free, shown, hidden}
-use Rattle.last_heap.proofs.Same.{same_heap}
 use Rattle.last_heap.proofs.heap.LastHeap.take.Goals as goal
 
-pub returns-in_err-cell : goal.returns-in_err-cell
-returns-in_err-cell c =
-    rw c.from_residual.ensures
-    (none_free c.args.self.now c.args.node c.in_err-cell.ensures.0, same_heap _ _ refl c.in_err-cell.ensures.1 refl)
+pub returns-in_err-cell-clause-cells : goal.returns-in_err-cell-clause-cells
+returns-in_err-cell-clause-cells c = rw c.from_residual.ensures (none_free c.args.self.now c.args.node c.in_err-cell.ensures.0)
 
 pub push-requires : goal.push-requires
 push-requires c =
@@ -22,12 +19,12 @@ invariant_of-self-in_default c =
     let facts = making c.args.self.now c.args.node c.args.colour c.pop.new.self c.in_ok-cell.cell c.occupy.new.self c.in_ok-cell.ensures c.occupy.ensures in
     record { unused = facts.unused; reached = facts.reached (hidden c.args.colour _ _ c.in_default.not-Grey) }
 
-pub returns-in-Grey : goal.returns-in-Grey
-returns-in-Grey c =
+pub returns-in-Grey-clause-cells : goal.returns-in-Grey-clause-cells
+returns-in-Grey-clause-cells c =
     let facts = making c.args.self.now c.args.node c.args.colour c.pop.new.self c.in_ok-cell.cell c.occupy.new.self c.in_ok-cell.ensures c.occupy.ensures in
-    (facts.some, facts.made, (c.in_ok-cell.ensures, c.push.ensures ∙ shown _ _ c.in-Grey.is))
+    (facts.some, facts.made)
 
-pub returns-in_default : goal.returns-in_default
-returns-in_default c =
+pub returns-in_default-clause-cells : goal.returns-in_default-clause-cells
+returns-in_default-clause-cells c =
     let facts = making c.args.self.now c.args.node c.args.colour c.pop.new.self c.in_ok-cell.cell c.occupy.new.self c.in_ok-cell.ensures c.occupy.ensures in
-    (facts.some, facts.made, (c.in_ok-cell.ensures, hidden c.args.colour _ _ c.in_default.not-Grey))
+    (facts.some, facts.made)
