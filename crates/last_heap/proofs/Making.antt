@@ -23,15 +23,6 @@ pub none_free : (heap : LastHeap) (node : Node) → frees heap node.number ≡ [
 none_free heap node none =
     ap is_some (first_none 64 (λ c. is_free (last_cells heap node.number c)) (none_passes heap.unused node.number node.near none))
 
--- stacks by whether a colour is grey
-pub shown : {colour : Colour} (x y : ℕ → List ℕ) → colour ≡ Grey → x ≡ cond (shows_grey colour) x y
-shown {colour} x y is = sym (cond-true (shows_grey colour) x y (ap shows_grey is))
-
-pub hidden : (colour : Colour) (x y : ℕ → List ℕ) → (colour ≡ Grey → ⊥) → y ≡ cond (shows_grey colour) x y
-hidden White x y other = refl
-hidden Grey x y other = absurd (other refl)
-hidden Black x y other = refl
-
 -- what follows once cell c of node n is taken from the stack and into use
 pub record Making (heap : LastHeap) (n : ℕ) (colour : Colour) (rest : Stacks) (c : ℕ) (after : Table) : Type 0 where
   pub some : some_free (last_cells heap) n ≡ true

@@ -1,5 +1,5 @@
-use Rattle.std.proofs.Common.{◌∙◌}
-use Rattle.last_heap.proofs.Making.{making, none_free, shown, hidden}
+use Rattle.std.proofs.Common.{rules}
+use Rattle.last_heap.proofs.Making.{making, none_free}
 use Rattle.last_heap.proofs.heap.LastHeap.take.Goals as goal
 
 pub returns-in_err-cell-clause-cells : goal.returns-in_err-cell-clause-cells
@@ -12,12 +12,12 @@ push-requires c =
 pub invariant_of-self-in-Grey : goal.invariant_of-self-in-Grey
 invariant_of-self-in-Grey c =
     let facts = making c.args.self.now c.args.node c.args.colour c.pop.new.self c.in_ok-cell.cell c.occupy.new.self c.in_ok-cell.ensures c.occupy.ensures in
-    record { unused = facts.unused; reached = facts.reached (c.push.ensures ∙ shown _ _ c.in-Grey.is) }
+    record { unused = facts.unused; reached = facts.reached (search rules) }
 
 pub invariant_of-self-in_default : goal.invariant_of-self-in_default
 invariant_of-self-in_default c =
     let facts = making c.args.self.now c.args.node c.args.colour c.pop.new.self c.in_ok-cell.cell c.occupy.new.self c.in_ok-cell.ensures c.occupy.ensures in
-    record { unused = facts.unused; reached = facts.reached (hidden c.args.colour _ _ c.in_default.not-Grey) }
+    record { unused = facts.unused; reached = facts.reached (search rules) }
 
 pub returns-in-Grey-clause-cells : goal.returns-in-Grey-clause-cells
 returns-in-Grey-clause-cells c =
