@@ -46,11 +46,15 @@ abbrev pub MakesLast : LastHeap → ℕ → Colour → Result ℕ Refusal → La
 MakesLast before n colour (Ok c) after = MadeLast before n colour c after
 MakesLast before n colour (Err why) after = after ≡ before
 
--- the top free cell is taken into use, or none is free
+-- a free cell is taken into use, or none is free
 abbrev pub TakesFree : LastHeap → ℕ → Colour → Option ℕ → LastHeap → Type 0
-TakesFree before n colour None after = (some_free (last_cells before) n ≡ false) × (after ≡ before)
-TakesFree before n colour (Some c) after =
-    (some_free (last_cells before) n ≡ true) × Made (last_cells before) n colour (last_cells after) c × MadeLast before n colour c after
+TakesFree before n colour None after = some_free (last_cells before) n ≡ false
+TakesFree before n colour (Some c) after = (some_free (last_cells before) n ≡ true) × Made (last_cells before) n colour (last_cells after) c
+
+-- it is the top free cell, or all stays
+abbrev pub TakesLast : LastHeap → ℕ → Colour → Option ℕ → LastHeap → Type 0
+TakesLast before n colour None after = after ≡ before
+TakesLast before n colour (Some c) after = MadeLast before n colour c after
 
 -- a white cell becomes the newest grey cell
 abbrev pub ShadesLast : LastHeap → ℕ → ℕ → Result Unit Refusal → LastHeap → Type 0
