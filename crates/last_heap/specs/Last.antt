@@ -6,6 +6,7 @@ use Rattle.model.specs.Cells.{Cell, Cells, is_white}
 use Rattle.model.specs.Heaps.{some_free, Made}
 use Rattle.model.specs.declared.colour.Colour.{Colour}
 use Rattle.model.specs.declared.refusal.Refusal.{Refusal}
+use Rattle.model.specs.declared.tally.Tally.{Tally}
 use Rattle.cell_list.specs.Lists.{without, Newest}
 use Rattle.table.specs.Tables.{cells_of, shows_grey}
 use Rattle.last_heap.specs.Stacks.{stack, at_nodes, on_top, falling, rising}
@@ -73,7 +74,7 @@ AnswersNewest heap n (Ok c) = Newest (greys heap n) c
 AnswersNewest heap n (Err why) = Unit {0}
 
 -- the freed cells come on top, the highest last, and no cell of the node is grey
-abbrev pub ReclaimsLast : LastHeap → ℕ → Result (ℕ × ℕ) Refusal → LastHeap → Type 0
+abbrev pub ReclaimsLast : LastHeap → ℕ → Result Tally Refusal → LastHeap → Type 0
 ReclaimsLast before n (Ok counts) after =
     (frees after ≡ put (frees before) n (frees before n ++ freed_cells (last_cells before n))) × (greys after ≡ put (greys before) n [])
 ReclaimsLast before n (Err why) after = after ≡ before

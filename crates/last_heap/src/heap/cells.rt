@@ -7,7 +7,7 @@ ghost use Rattle.table.proofs.Held.{sized};
 
 use super::LastHeap;
 use super::node::Node;
-use model::{Colour, Heap, Reference, Refusal};
+use model::{Colour, Heap, Reference, Refusal, Tally};
 
 impl Heap for LastHeap {
     ghost cells = { last_cells };
@@ -80,7 +80,7 @@ impl Heap for LastHeap {
         Ok(self.newest(Node::new(node)?))
     }
 
-    fn reclaim(&mut self, node: u8) -> Result<(u8, u8), Refusal>
+    fn reclaim(&mut self, node: u8) -> Result<Tally, Refusal>
         ensures cells { Reclaims last_cells self.old node result self.new }
         ensures choice { ReclaimsLast self.old node result self.new }
     {

@@ -6,7 +6,7 @@ ghost use Rattle.next_heap.specs.Next.{next_cells, starts, at_zero, MakesNext, A
 ghost use Rattle.table.proofs.Held.{sized};
 
 use super::NextHeap;
-use model::{Colour, Heap, Reference, Refusal};
+use model::{Colour, Heap, Reference, Refusal, Tally};
 
 impl Heap for NextHeap {
     ghost cells = { next_cells };
@@ -74,7 +74,7 @@ impl Heap for NextHeap {
         self.lowest_grey(node)
     }
 
-    fn reclaim(&mut self, node: u8) -> Result<(u8, u8), Refusal>
+    fn reclaim(&mut self, node: u8) -> Result<Tally, Refusal>
         ensures cells { Reclaims next_cells self.old node result self.new }
         ensures choice { starts self.new ≡ starts self.old }
     {
