@@ -1,11 +1,13 @@
-use Rattle.std.proofs.Common.{refl, ap, ◌∙◌, arith}
-use Rattle.model.specs.Kinds.{kind_number}
-use Rattle.known_bag.specs.declared.outcome.Outcome.TheVariants.{Took}
-use Rattle.known_bag.proofs.Picked.{later_of_two}
+use Rattle.std.proofs.Common.{rules}
+use Rattle.known_bag.proofs.Waiting.{one_waits, two_wait}
 use Rattle.known_bag.proofs.picking.third_of_two.Goals as goal
+
+pub returns-in_err-put-2 : goal.returns-in_err-put-2
+returns-in_err-put-2 c =
+    let one = one_waits c.new-bag.result.queue c.put.new.self.queue c.in_ok-new.field-0 c.new-bag.ensures.waiting c.in_ok-put.ensures.waiting.1.added in
+    search rules
 
 pub returns : goal.returns
 returns c =
-    c.of_take.ensures
-    ∙ later_of_two c.new-bag.result c.put.new.self c.put-2.new.self c.take.new.self 1 3 c.to_node_1.result c.to_node_1-2.result c.put.result c.put-2.result c.take.result c.new-bag.ensures.waiting c.new-bag.ensures.capacity c.to_node_1.ensures.1 c.to_node_1-2.ensures.1 c.put.ensures.waiting c.put.ensures.choice c.put-2.ensures.waiting c.put-2.ensures.choice c.take.ensures.waiting c.take.ensures.choice (omega arith) refl
-    ∙ ap (λ k. Took (kind_number k)) c.to_node_1-2.ensures.2
+    let two = two_wait c.new-bag.result.queue c.put.new.self.queue c.put-2.new.self.queue c.in_ok-new.field-0 c.in_ok-new-2.field-0 1 c.new-bag.ensures.waiting c.in_ok-put.ensures.choice c.in_ok-put-2.ensures.choice c.in_ok-new.ensures.1.1 c.in_ok-new-2.ensures.1.1 in
+    search rules
