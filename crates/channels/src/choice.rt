@@ -1,6 +1,6 @@
 // What sets a channel apart: how many messages can wait, and which of those for a node is given.
 ghost use Rattle.std.specs.Prelude.{◌≡◌, ℕ, ◌%◌, ◌≤◌, length};
-ghost use Rattle.std.proofs.Common.{rules};
+ghost use Rattle.std.proofs.Common.{lit≤};
 ghost use Rattle.model.specs.Channels.{Gives};
 ghost use Rattle.queue.specs.Queues.{queued, limit_of, lanes, Given};
 
@@ -36,9 +36,9 @@ impl Choice for Oldest {
 
     ghost number = { λ pick count. 0 };
 
-    ghost some = { Prim.search rules };
+    ghost some = { lit≤ tt };
 
-    ghost few = { Prim.search rules };
+    ghost few = { lit≤ tt };
 
     fn choose(queue: &mut Queue, node: u8, _pick: u8) -> Option<Message> {
         queue.oldest(node)
@@ -56,9 +56,9 @@ impl Choice for Picked {
 
     ghost number = { λ pick count. pick % count };
 
-    ghost some = { Prim.search rules };
+    ghost some = { lit≤ tt };
 
-    ghost few = { Prim.search rules };
+    ghost few = { lit≤ tt };
 
     fn choose(queue: &mut Queue, node: u8, pick: u8) -> Option<Message> {
         queue.pick(node, pick)
