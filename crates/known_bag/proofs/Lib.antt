@@ -1,1 +1,1 @@
-mod Waiting
+mod Lanes

@@ -1,13 +1,11 @@
-use Rattle.std.proofs.Common.{rules}
-use Rattle.known_bag.proofs.Waiting.{one_waits, two_wait}
+use Rattle.std.proofs.Common.{length, ap, rules}
+use Rattle.model.proofs.Counts.{added_length}
+use Rattle.channels.specs.Channels.{channel_waiting}
 use Rattle.known_bag.proofs.picking.third_of_two.Goals as goal
 
+-- there is room for the second message: one waits
 pub returns-in_err-put-2 : goal.returns-in_err-put-2
 returns-in_err-put-2 c =
-    let one = one_waits c.new-bag.result.queue c.put.new.self.queue c.in_ok-new.field-0 c.new-bag.ensures.waiting c.in_ok-put.ensures.waiting.1.added in
-    search rules
-
-pub returns : goal.returns
-returns c =
-    let two = two_wait c.new-bag.result.queue c.put.new.self.queue c.put-2.new.self.queue c.in_ok-new.field-0 c.in_ok-new-2.field-0 1 c.new-bag.ensures.waiting c.in_ok-put.ensures.choice c.in_ok-put-2.ensures.choice c.in_ok-new.ensures.1.1 c.in_ok-new-2.ensures.1.1 in
+    let none = ap length c.new-bag.ensures.waiting in
+    let one = added_length c.in_ok-new.field-0 (channel_waiting c.new-bag.result) (channel_waiting c.put.new.self) c.in_ok-put.ensures.waiting.1.added in
     search rules
