@@ -5,7 +5,7 @@ use model::Message;
 
 #[derive(Clone, Copy)]
 pub struct Queue {
-    // those that wait are the first `len`; a Queue is Copy, which an ArrayVec is not
+    // the first `len` wait; an array, since the core allocates nothing and a Queue is Copy, which an ArrayVec is not
     messages: [Message; 256],
     len: usize,
     limit: u16,
