@@ -1,5 +1,5 @@
 -- The cells that a heap which goes round chooses.
-use Rattle.std.proofs.Common.{◌≡◌, ℕ, ◌<◌, Bool, true, false, cond, ◌&&◌, ltb, leb, List, length, get_or, set, Some, None, ok_or, Option, sym, refl, ap, ◌∙◌, subst, ap₂, arith}
+use Rattle.std.proofs.Common.{◌≡◌, ℕ, zero, suc, ◌<◌, Bool, true, false, cond, ◌&&◌, ltb, leb, List, length, get_or, set, replicate, Some, None, ok_or, Option, sym, refl, ap, ◌∙◌, subst, ap₂, arith}
 use Rattle.std.proofs.lemmas.List.{get_or-set_same, get_or-set_other}
 use Rattle.std.proofs.lemmas.Bool.{lt-ltb, and_parts}
 use Rattle.model.specs.Tables.{put, first, or_else, is_some}
@@ -63,3 +63,9 @@ grey_lowest cells n set r greys is =
 pub started : (xs : List ℕ) (n start m : ℕ) → length xs ≡ 16 → n < 16 → get_or (set xs n start) m 0 ≡ put (λ k. get_or xs k 0) n start m
 started xs n start m wide near =
     ap (λ f. f m) (is_put (λ k. get_or xs k 0) (λ k. get_or (set xs n start) k 0) n start (get_or-set_same xs n start 0 (omega arith)) (λ k off. get_or-set_other xs n k start 0 off))
+
+-- a node that nothing was made on starts at 0
+pub fresh : (k n : ℕ) → get_or {A = ℕ} (replicate k 0) n 0 ≡ 0
+fresh zero n = refl
+fresh (suc k) zero = refl
+fresh (suc k) (suc n) = fresh k n
