@@ -1,2 +1,3 @@
-mod Digits
-mod Sets
+mod Bits
+mod Counts
+mod Lowest

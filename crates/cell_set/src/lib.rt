@@ -2,6 +2,5 @@
 #![tactic(auto)]
 
 mod set;
-mod word;
 
 pub use set::CellSet;

@@ -1,6 +1,6 @@
 // The cells of the host, as the story makes, links and lists them.
-use cell_list::CellList;
 use model::{Colour, Heap, Reference, Refusal};
+use std::alloc::Global;
 
 // The one host of this program.
 pub const HOST: u8 = 0;
@@ -13,6 +13,13 @@ pub struct Drafts {
     pub second: Reference,
     pub other: Reference,
     pub line: Reference,
+}
+
+// The cells in use, lowest first: those that are white, and the others.
+#[derive(Drop)]
+pub struct InUse {
+    pub white: Vec<Reference>,
+    pub marked: Vec<Reference>,
 }
 
 // Makes a white cell.
@@ -44,29 +51,27 @@ pub fn enter<H: Heap>(heap: &mut H) -> Result<Drafts, Refusal> {
 }
 
 // What the slots of a cell name, lowest first.
-pub fn named<H: Heap>(heap: &H, cell: u8) -> Result<CellList, Refusal> {
-    let mut names = CellList::new();
+pub fn named<H: Heap>(alloc: Global, heap: &H, cell: Reference) -> anyhow::Result<Vec<Reference>> {
+    let mut names = Vec::new(alloc);
     for slot in 0..4 {
-        if let Some(name) = heap.slot(HOST, cell, slot)? {
-            names.push(name.cell());
+        if let Some(name) = heap.slot(HOST, cell.cell(), slot)? {
+            names.push(name)?;
         }
     }
     Ok(names)
 }
 
-// The cells in use that are white, or that are not, lowest first.
-pub fn in_use<H: Heap>(heap: &H, white: bool) -> CellList {
-    let mut used = CellList::new();
-    for cell in 0..64 {
-        match heap.colour(HOST, cell) {
-            Ok(Colour::White) if white => {
-                used.push(cell);
-            }
-            Ok(Colour::Grey | Colour::Black) if !white => {
-                used.push(cell);
-            }
-            _ => {}
+pub fn in_use<H: Heap>(alloc: Global, heap: &H) -> anyhow::Result<InUse> {
+    let mut white = Vec::new(alloc);
+    let mut marked = Vec::new(alloc);
+    for number in 0..64 {
+        let cell = Reference::new(HOST, number)?;
+        match heap.colour(HOST, number) {
+            Ok(Colour::White) => white.push(cell)?,
+            Ok(Colour::Grey | Colour::Black) => marked.push(cell)?,
+            // a free cell has no colour
+            Err(_) => {}
         }
     }
-    used
+    Ok(InUse { white, marked })
 }

@@ -1,8 +1,8 @@
 // A split with two lines stays; another draft with a line of its own is closed.
-use crate::books::{HOST, enter, in_use, make, named};
+use crate::books::{HOST, InUse, enter, in_use, make, named};
 use crate::telling;
 use marking::mark;
-use model::{Heap, Reference};
+use model::{Heap, Reference, Tally};
 
 pub fn close_draft<H: Heap>(rt: &HostRuntime, heap: &mut H) -> anyhow::Result<()> {
     let drafts = enter(heap)?;
@@ -17,18 +17,19 @@ pub fn close_draft<H: Heap>(rt: &HostRuntime, heap: &mut H) -> anyhow::Result<()
 
 fn mark_from<H: Heap>(rt: &HostRuntime, heap: &mut H, root: Reference) -> anyhow::Result<()> {
     println!(rt; "Marking starts at {root} and goes through all that it leads to:")?;
-    for cell in mark(heap, HOST, &[root])?.items() {
-        telling::read(rt, *cell, named(heap, *cell)?.items())?;
+    for number in mark(heap, HOST, &[root])?.items() {
+        let cell = Reference::new(HOST, *number)?;
+        let names = named(rt.alloc(), heap, cell)?;
+        telling::read(rt, cell, names.as_slice())?;
     }
     Ok(())
 }
 
 fn reclaim<H: Heap>(rt: &HostRuntime, heap: &mut H) -> anyhow::Result<()> {
-    let white = in_use(heap, true);
-    let marked = in_use(heap, false);
-    let (freed, kept) = heap.reclaim(HOST)?;
+    let InUse { white, marked } = in_use(rt.alloc(), heap)?;
+    let Tally { freed, kept } = heap.reclaim(HOST)?;
     println!(rt; "What is still white is reclaimed: {freed} freed, {kept} kept.")?;
-    telling::cells(rt, "  freed:", white.items())?;
-    telling::cells(rt, "  kept:", marked.items())?;
+    telling::cells(rt, "  freed:", white.as_slice())?;
+    telling::cells(rt, "  kept:", marked.as_slice())?;
     Ok(())
 }

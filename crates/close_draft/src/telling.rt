@@ -1,5 +1,5 @@
 // What the program writes.
-use crate::books::{Drafts, HOST};
+use crate::books::Drafts;
 use model::Reference;
 use std::io;
 
@@ -18,29 +18,20 @@ pub fn drafts(rt: &HostRuntime, drafts: Drafts) -> io::Result<()> {
     println!(rt; "  {other} is another draft: it names {line}, its line")
 }
 
-// A cell of the host, as it is written.
-fn cell(rt: &HostRuntime, cell: u8) -> io::Result<()> {
-    match Reference::new(HOST, cell) {
-        Ok(reference) => print!(rt; " {reference}"),
-        Err(_) => Ok(()),
-    }
-}
-
 // Words, and then cells in order.
-pub fn cells(rt: &HostRuntime, words: &str, cells: &[u8]) -> io::Result<()> {
+pub fn cells(rt: &HostRuntime, words: &str, cells: &[Reference]) -> io::Result<()> {
     print!(rt; "{words}")?;
     if cells.is_empty() {
         print!(rt; " nothing")?;
     }
-    for number in cells {
-        cell(rt, *number)?;
+    for cell in cells {
+        print!(rt; " {cell}")?;
     }
     println!(rt; "")
 }
 
 // A cell that marking read.
-pub fn read(rt: &HostRuntime, number: u8, names: &[u8]) -> io::Result<()> {
-    print!(rt; " ")?;
-    cell(rt, number)?;
-    cells(rt, " is grey; it is read and turns black; it names", names)
+pub fn read(rt: &HostRuntime, cell: Reference, names: &[Reference]) -> io::Result<()> {
+    print!(rt; "  {cell} is grey; it is read and turns black; it names")?;
+    cells(rt, "", names)
 }

@@ -2,19 +2,14 @@
 #![tactic(auto)]
 
 mod story;
-mod telling;
 
 use channels::{Bag, Fifo};
 
 fn main(rt: HostRuntime) -> anyhow::Result<()> {
-    tell(&rt)
-}
-
-fn tell(rt: &HostRuntime) -> anyhow::Result<()> {
     println!(rt; "A channel gives each node the message that waits longest for it.\n")?;
-    story::deliver(rt, &mut Fifo::new(), 0)?;
+    story::deliver(&rt, &mut Fifo::new(), 0)?;
     println!(rt;
         "\nA channel gives whichever message for the node the network picks: here always number 1 of those that wait, from 0.\n"
     )?;
-    story::deliver(rt, &mut Bag::new(), 1)
+    story::deliver(&rt, &mut Bag::new(), 1)
 }

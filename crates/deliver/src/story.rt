@@ -1,5 +1,4 @@
 // A host sends a reference and then opens a round; the reference may come second.
-use crate::telling;
 use model::{Channel, Kind, Message, Reference, Refusal};
 
 // Puts the messages of the story, and takes them at both receivers.
@@ -7,7 +6,7 @@ pub fn deliver<C: Channel>(rt: &HostRuntime, channel: &mut C, pick: u8) -> anyho
     println!(rt; "Host 0 sends a reference to host 1, and then opens a round:")?;
     for message in [reference_sent()?, opening(1)?, opening(2)?] {
         channel.put(message)?;
-        telling::put(rt, message)?;
+        println!(rt; "  to host {}: {}", message.to(), message.kind())?;
     }
     for node in 1..3 {
         take_all(rt, channel, node, pick)?;
@@ -36,7 +35,11 @@ fn take_all<C: Channel>(
     pick: u8,
 ) -> anyhow::Result<()> {
     while let Some(message) = channel.take(node, pick)? {
-        telling::taken(rt, node, message)?;
+        println!(rt;
+            "Host {node} takes from host {}: {}",
+            message.from(),
+            message.kind()
+        )?;
     }
     println!(rt; "Nothing more waits for host {node}.")?;
     Ok(())

@@ -1,18 +1,22 @@
 -- What the heap that makes the cell freed last does, where its top free cell is known.
-use Rattle.std.proofs.Common.{◌≡◌, ℕ, suc, List, [], ◌∷◌, ◌++◌, map, None, Ok, Err, Result, sym, refl, ap, ◌∙◌, arith}
+use Rattle.std.proofs.Common.{◌≡◌, ℕ, suc, List, [], ◌∷◌, ◌++◌, map, None, Ok, Err, Result, sym, refl, ap, ◌∙◌}
 use Rattle.std.proofs.lemmas.List.{same_from_push}
 use Rattle.model.specs.Refusals.{first_no}
 use Rattle.model.specs.Tables.{put₂, first}
-use Rattle.model.specs.Cells.{Cells, all_free, empty_slots, reclaim}
+use Rattle.model.specs.Cells.{Cell, Cells, all_free, empty_slots, reclaim}
 use Rattle.model.specs.Cells.Cell.{used}
 use Rattle.model.specs.Heaps.{make_asks, node_asks, Makes, Reclaims}
 use Rattle.model.specs.declared.colour.Colour.{Colour}
+use Rattle.model.specs.declared.tally.Tally.{Tally}
 use Rattle.model.specs.declared.colour.Colour.TheVariants.{White}
 use Rattle.model.specs.declared.refusal.Refusal.{Refusal}
 use Rattle.model.proofs.Puts.{put_here}
 use Rattle.last_heap.specs.Last.{last_cells, frees, all_cells, freed_cells, MakesLast, ReclaimsLast}
 use Rattle.last_heap.specs.Stacks.{at_nodes, falling, rising}
 use Rattle.last_heap.specs.declared.heap.LastHeap.{LastHeap}
+
+pub granted : {X : Type 0} {r : Result X Refusal} {x : X} {why : Refusal} → r ≡ Ok x → r ≡ Err why → ⊥
+granted ok err = cc
 
 -- what is known after a call at node n: its answer, the cells, and the stack of free cells
 pub record After {X : Type 0} (r answer : X) (heap : LastHeap) (n : ℕ) (now : Cells) (stack : List ℕ) : Type 0 where
@@ -32,9 +36,9 @@ makes before after n c colour cells xs (Ok d) is top room (asked, made) (free, g
       free = same.0;
     }
 makes before after n c colour cells xs (Err why) is top room (asked, same) stays =
-    let never : ◌≡◌ {A = ℕ} 0 1 = cc (ap (λ f. first_no (make_asks f n)) is) in absurd (omega arith)
+    cc (ap (λ f. first_no (make_asks f n)) is)
 
-pub reclaims : (before after : LastHeap) (n : ℕ) (cells : Cells) (xs : List ℕ) (r : Result (ℕ × ℕ) Refusal)
+pub reclaims : (before after : LastHeap) (n : ℕ) (cells : Cells) (xs : List ℕ) (r : Result Tally Refusal)
     → last_cells before ≡ cells → frees before n ≡ xs → first_no (node_asks n) ≡ None
     → Reclaims last_cells before n r after → ReclaimsLast before n r after
     → (last_cells after ≡ reclaim cells n) × (frees after n ≡ xs ++ freed_cells (cells n))
@@ -43,21 +47,32 @@ reclaims before after n cells xs (Ok counts) is free near (asked, done) (stack, 
   ap (λ f. f n) stack ∙ put_here (frees before) n (frees before n ++ freed_cells (last_cells before n)) ∙ ap (λ ys. ys ++ freed_cells (last_cells before n)) free ∙ ap (λ f. xs ++ freed_cells (f n)) is,
 )
 reclaims before after n cells xs (Err why) is free near (asked, same) stays =
-    let never : ◌≡◌ {A = ℕ} 0 1 = cc in absurd (omega arith)
+    cc
+
+abbrev white : Cell
+white = used White empty_slots
+
+-- the cells that are free besides the two lowest
+abbrev rest : List ℕ
+rest = map suc (map suc (falling 62))
 
 -- two cells of a new heap are made white and reclaimed: the next make gives the higher one
-module _ (heap once twice swept again : LastHeap) (r s t : Result ℕ Refusal) (counts : Result (ℕ × ℕ) Refusal)
-    (new : last_cells heap ≡ all_free) (stack : frees heap ≡ at_nodes all_cells)
-    (make : Makes last_cells heap 0 White r once) (choice : MakesLast heap 0 White r once)
-    (make_2 : Makes last_cells once 0 White s twice) (choice_2 : MakesLast once 0 White s twice)
-    (sweep : Reclaims last_cells twice 0 counts swept) (choice_3 : ReclaimsLast twice 0 counts swept)
-    (make_3 : Makes last_cells swept 0 White t again) (choice_4 : MakesLast swept 0 White t again) where
-  pub higher_first : t ≡ Ok 1
-  unfolding falling rising first
-  higher_first =
-      let white = used White empty_slots in
-      let rest = map suc (map suc (falling 62)) in
-      let one = makes heap once 0 0 White all_free (rest ++ (1 ∷ [])) r new (ap (λ f. f 0) stack) refl make choice in
-      let two = makes once twice 0 1 White (put₂ all_free 0 0 white) rest s one.cells one.free refl make_2 choice_2 in
-      let three = reclaims twice swept 0 (put₂ (put₂ all_free 0 0 white) 0 1 white) rest counts two.cells two.free refl sweep choice_3 in
-      (makes swept again 0 1 White (reclaim (put₂ (put₂ all_free 0 0 white) 0 1 white) 0) (rest ++ (0 ∷ [])) t three.0 three.1 refl make_3 choice_4).answers
+module _ (heap once : LastHeap) (r : Result ℕ Refusal) (new : last_cells heap ≡ all_free) (stack : frees heap ≡ at_nodes all_cells)
+    (make : Makes last_cells heap 0 White r once) (choice : MakesLast heap 0 White r once) where
+  pub first_made : After r (Ok 0) once 0 (put₂ all_free 0 0 white) (rest ++ (1 ∷ []))
+  unfolding falling first
+  first_made = makes heap once 0 0 White all_free (rest ++ (1 ∷ [])) r new (ap (λ f. f 0) stack) refl make choice
+
+  module _ (twice : LastHeap) (s : Result ℕ Refusal) (make_2 : Makes last_cells once 0 White s twice) (choice_2 : MakesLast once 0 White s twice) where
+    pub second_made : After s (Ok 1) twice 0 (put₂ (put₂ all_free 0 0 white) 0 1 white) rest
+    unfolding first
+    second_made = makes once twice 0 1 White (put₂ all_free 0 0 white) rest s first_made.cells first_made.free refl make_2 choice_2
+
+    pub higher_first : (swept again : LastHeap) (counts : Result Tally Refusal) (t : Result ℕ Refusal)
+        → Reclaims last_cells twice 0 counts swept → ReclaimsLast twice 0 counts swept
+        → Makes last_cells swept 0 White t again → MakesLast swept 0 White t again → t ≡ Ok 1
+    unfolding rising falling first
+    higher_first swept again counts t sweep choice_3 make_3 choice_4 =
+        let cells = put₂ (put₂ all_free 0 0 white) 0 1 white in
+        let free = reclaims twice swept 0 cells rest counts second_made.cells second_made.free refl sweep choice_3 in
+        (makes swept again 0 1 White (reclaim cells 0) (rest ++ (0 ∷ [])) t free.0 free.1 refl make_3 choice_4).answers

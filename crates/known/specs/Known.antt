@@ -1,32 +1,12 @@
--- What is known of the parts, value by value.
--- A node holds 64 cells, so the 65th make on it is refused.
-use Rattle.std.specs.Prelude.{ℕ, cond, List, [], ◌∷◌, Ok, Err, Result, nat_lt}
-use Rattle.model.specs.Refusals.{number}
-use Rattle.model.specs.Tables.{one, total}
-use Rattle.model.specs.Cells.{Cells, is_used}
-use Rattle.model.specs.declared.refusal.Refusal.{Refusal}
-use Rattle.known.specs.declared.outcome.Outcome.{Outcome}
-use Rattle.known.specs.declared.outcome.Outcome.TheVariants.{Granted, Made, Refused}
+-- The known values: what comes of the calls that each is named for.
+-- The cell of a granted make is told only where it is known.
+use Rattle.std.specs.Prelude.{[], ◌∷◌, Ok, Err}
+use Rattle.model.specs.declared.refusal.Refusal.TheVariants.{NoFreeCell}
+use Rattle.known.specs.declared.values.KnownValues.{KnownValues}
 
--- what comes of one make more on a node of a new heap, after count of them
-abbrev pub after_makes : ℕ → ℕ → Outcome
-after_makes node count = cond (nat_lt node 16) (cond (nat_lt count 64) Granted (Refused 7)) (Refused 1)
-
--- how many cells of node n are in use
-abbrev pub used_count : Cells → ℕ → ℕ
-used_count cells n = total 64 (λ c. one (is_used (cells n c)))
-
--- what came of a make, with the cell
-abbrev pub of_make : Result ℕ Refusal → Outcome
-of_make (Ok cell) = Made cell
-of_make (Err why) = Refused (number why)
-
--- the known values, in order
-abbrev pub known_outcomes : List Outcome
-known_outcomes =
-    -- the 64th make on a node, and the 65th: the next heap, then the last heap
-    Granted ∷ Refused 7
-    ∷ Granted ∷ Refused 7
-    -- the last heap, two cells made white and reclaimed: the next make
-    ∷ Made 1
-    ∷ []
+abbrev pub known_outcomes : KnownValues
+known_outcomes = record {
+  next_heap = Ok tt ∷ Err NoFreeCell ∷ [];
+  last_heap = Ok tt ∷ Err NoFreeCell ∷ [];
+  freed_last = Ok 1;
+}

@@ -1,20 +1,16 @@
 // How much a node holds.
 ghost use Rattle.std.specs.Prelude.{◌≡◌};
-ghost use Rattle.known.specs.Known.{after_makes};
+ghost use Rattle.known.specs.Filling.{after_makes};
 
-use crate::outcome::Outcome;
-use model::{Colour, Heap};
+use model::{Colour, Heap, Refusal};
 
 // Clears a heap, makes `count` cells on a node, and answers what comes of one make more.
-pub fn make_after<H: Heap>(heap: &mut H, node: u8, count: u8) -> Outcome
+pub fn make_after<H: Heap>(heap: &mut H, node: u8, count: u8) -> Result<(), Refusal>
     ensures { result ≡ after_makes node count }
 {
     heap.clear();
-    for _made in 0..count {
-        let _ = heap.make(node, Colour::White);
+    for _made in 0..=count {
+        heap.make(node, Colour::White)?;
     }
-    match heap.make(node, Colour::White) {
-        Ok(_) => Outcome::Granted,
-        Err(why) => Outcome::Refused(why.number()),
-    }
+    Ok(())
 }

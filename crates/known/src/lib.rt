@@ -3,8 +3,6 @@
 
 mod filling;
 mod freeing;
-mod outcome;
 mod values;
 
-pub use outcome::Outcome;
-pub use values::known_values;
+pub use values::{KnownValues, known_values};

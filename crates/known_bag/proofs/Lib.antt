@@ -1,1 +1,1 @@
-mod Picked
+mod Lanes

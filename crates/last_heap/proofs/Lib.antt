@@ -3,4 +3,3 @@ mod Ranges
 mod Replaced
 mod Stacked
 mod Making
-mod Same

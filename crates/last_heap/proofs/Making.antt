@@ -9,53 +9,52 @@ use Rattle.model.specs.declared.colour.Colour.{Colour}
 use Rattle.model.specs.declared.colour.Colour.TheVariants.{White, Grey, Black}
 use Rattle.model.proofs.Puts.{put_here}
 use Rattle.model.proofs.Firsts.{first_none, first_is_some}
+use Rattle.model.proofs.Colours.{from_free}
 use Rattle.table.specs.Tables.{cells_of, shows_grey}
 use Rattle.table.specs.declared.table.Table.{Table}
 use Rattle.last_heap.specs.Stacks.{stack, on_top, Stacked}
 use Rattle.last_heap.specs.Last.{last_cells, frees, greys}
 use Rattle.last_heap.specs.declared.heap.LastHeap.{LastHeap}
+use Rattle.last_heap.specs.declared.heap.node.Node.{Node}
 use Rattle.last_heap.specs.declared.heap.stacks.Stacks.{Stacks}
-use Rattle.model.proofs.Colours.{from_free}
-use Rattle.last_heap.proofs.Stacked.{stacked_same, stacked_push, stacked_pop, stacked_room, top_passes, none_passes}
+use Rattle.last_heap.proofs.Stacked.{stays, comes, pops, has_room, top_passes, none_passes}
 
-pub none_free : (cells : Cells) (n : ℕ) (frees : ℕ → List ℕ) → n < 16 → frees n ≡ [] → Stacked is_free cells frees → some_free cells n ≡ false
-none_free cells n frees near none unused =
-    ap is_some (first_none 64 (λ c. is_free (cells n c)) (none_passes is_free cells n frees near none unused))
-
-module _ (cells : Cells) (n c : ℕ) (greys : ℕ → List ℕ) (near : n < 16) (low : c < 64) (was_free : cells n c ≡ free) (reached : Stacked is_grey cells greys) where
-  not_grey : is_grey (cells n c) ≡ false
-  not_grey = ap is_grey was_free
-
-  made_grey : (colour : Colour) → Stacked is_grey (put₂ cells n c (used colour empty_slots)) (cond (shows_grey colour) (on_top greys n c) greys)
-  made_grey White = stacked_same is_grey cells n greys c (used White empty_slots) (sym not_grey) reached
-  made_grey Grey = stacked_push is_grey cells n greys c (used Grey empty_slots) near low not_grey refl reached
-  made_grey Black = stacked_same is_grey cells n greys c (used Black empty_slots) (sym not_grey) reached
-
-pub no_shown_grey : (colour : Colour) → (colour ≡ Grey → ⊥) → shows_grey colour ≡ false
-no_shown_grey White other = refl
-no_shown_grey Grey other = absurd (other refl)
-no_shown_grey Black other = refl
+pub none_free : (heap : LastHeap) (node : Node) → frees heap node.number ≡ [] → some_free (last_cells heap) node.number ≡ false
+none_free heap node none =
+    ap is_some (first_none 64 (λ c. is_free (last_cells heap node.number c)) (none_passes heap.unused node.number node.near none))
 
 -- what follows once cell c of node n is taken from the stack and into use
-pub record Making (heap : LastHeap) (rest : Stacks) (after : Table) (n c : ℕ) (colour : Colour) : Type 0 where
+pub record Making (heap : LastHeap) (n : ℕ) (colour : Colour) (rest : Stacks) (c : ℕ) (after : Table) : Type 0 where
   pub some : some_free (last_cells heap) n ≡ true
   pub made : Made (last_cells heap) n colour (cells_of after) c
   pub unused : Stacked is_free (cells_of after) (stack rest)
   pub room : length (greys heap n) < 64
-  pub reached : Stacked is_grey (cells_of after) (cond (shows_grey colour) (on_top (greys heap) n c) (greys heap))
+  pub reached : {others : ℕ → List ℕ} → others ≡ cond (shows_grey colour) (on_top (greys heap) n c) (greys heap) → Stacked is_grey (cells_of after) others
 
-pub making : (heap : LastHeap) (rest : Stacks) (after : Table) (n c : ℕ) (colour : Colour) → n < 16 → frees heap ≡ on_top (stack rest) n c → cells_of after ≡ cond (ltb n 16 && ltb c 64) (put₂ (last_cells heap) n c (used colour empty_slots)) (last_cells heap) → Making heap rest after n c colour
-making heap rest after n c colour near top occupied =
-    let cells = last_cells heap in
-    let left = stack rest in
-    let passes = top_passes is_free cells n (frees heap) (left n) c near (ap (λ f. f n) top ∙ put_here left n (left n ++ (c ∷ []))) heap.unused in
-    let low = passes.0 in
-    let was_free = from_free (cells n c) passes.1 in
-    let made : cells_of after ≡ put₂ cells n c (used colour empty_slots) = occupied ∙ cond-true _ _ _ (and_from _ _ (lt-ltb n 16 near) (lt-ltb c 64 low)) in
-    record {
-      some = first_is_some 64 (λ k. is_free (cells n k)) c low passes.1;
-      made = record { low = low; was_free = was_free; cells = made };
-      unused = subst (λ x. Stacked is_free x left) (sym made) (stacked_pop is_free cells n left c (used colour empty_slots) near refl (subst (Stacked is_free cells) top heap.unused));
-      room = stacked_room is_grey cells n (greys heap) c near low (ap is_grey was_free) heap.reached;
-      reached = subst (λ x. Stacked is_grey x (cond (shows_grey colour) (on_top (greys heap) n c) (greys heap))) (sym made) (made_grey cells n c (greys heap) near low was_free heap.reached colour);
-    }
+module _ (heap : LastHeap) (node : Node) (colour : Colour) (rest : Stacks) (c : ℕ) (after : Table) where
+  abbrev n : ℕ
+  n = node.number
+
+  abbrev cells : Cells
+  cells = last_cells heap
+
+  -- made grey, it is the newest grey cell
+  grey_made : (colour : Colour) {others : ℕ → List ℕ} → c < 64 → is_grey (cells n c) ≡ false → cells_of after ≡ put₂ cells n c (used colour empty_slots) → others ≡ cond (shows_grey colour) (on_top (greys heap) n c) (greys heap) → Stacked is_grey (cells_of after) others
+  grey_made White low other made is = subst (Stacked is_grey (cells_of after)) (sym is) (stays heap.reached n c (λ _. used White empty_slots) made (sym other))
+  grey_made Grey low other made is = comes heap.reached n c (λ _. used Grey empty_slots) made low other refl is
+  grey_made Black low other made is = subst (Stacked is_grey (cells_of after)) (sym is) (stays heap.reached n c (λ _. used Black empty_slots) made (sym other))
+
+  pub making : frees heap ≡ on_top (stack rest) n c → cells_of after ≡ cond (ltb n 16 && ltb c 64) (put₂ cells n c (used colour empty_slots)) cells → Making heap n colour rest c after
+  making top occupied =
+      let passes = top_passes heap.unused n node.near (stack rest n) c (ap (λ f. f n) top ∙ put_here (stack rest) n (stack rest n ++ (c ∷ []))) in
+      let low = passes.0 in
+      let was_free : cells n c ≡ free = from_free (cells n c) passes.1 in
+      let other : is_grey (cells n c) ≡ false = ap is_grey was_free in
+      let made : cells_of after ≡ put₂ cells n c (used colour empty_slots) = occupied ∙ cond-true _ _ _ (and_from _ _ (lt-ltb n 16 node.near) (lt-ltb c 64 low)) in
+      record {
+        some = first_is_some 64 (λ k. is_free (cells n k)) c low passes.1;
+        made = record { low = low; was_free = was_free; cells = made };
+        unused = pops heap.unused n c (λ _. used colour empty_slots) made (stack rest) refl top;
+        room = has_room heap.reached n node.near c low other;
+        reached = λ {others} is. grey_made colour low other made is;
+      }

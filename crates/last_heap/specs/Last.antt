@@ -6,6 +6,7 @@ use Rattle.model.specs.Cells.{Cell, Cells, is_white}
 use Rattle.model.specs.Heaps.{some_free, Made}
 use Rattle.model.specs.declared.colour.Colour.{Colour}
 use Rattle.model.specs.declared.refusal.Refusal.{Refusal}
+use Rattle.model.specs.declared.tally.Tally.{Tally}
 use Rattle.cell_list.specs.Lists.{without, Newest}
 use Rattle.table.specs.Tables.{cells_of, shows_grey}
 use Rattle.last_heap.specs.Stacks.{stack, at_nodes, on_top, falling, rising}
@@ -46,11 +47,15 @@ abbrev pub MakesLast : LastHeap → ℕ → Colour → Result ℕ Refusal → La
 MakesLast before n colour (Ok c) after = MadeLast before n colour c after
 MakesLast before n colour (Err why) after = after ≡ before
 
--- the top free cell is taken into use, or none is free
+-- a free cell is taken into use, or none is free
 abbrev pub TakesFree : LastHeap → ℕ → Colour → Option ℕ → LastHeap → Type 0
-TakesFree before n colour None after = (some_free (last_cells before) n ≡ false) × (after ≡ before)
-TakesFree before n colour (Some c) after =
-    (some_free (last_cells before) n ≡ true) × Made (last_cells before) n colour (last_cells after) c × MadeLast before n colour c after
+TakesFree before n colour None after = some_free (last_cells before) n ≡ false
+TakesFree before n colour (Some c) after = (some_free (last_cells before) n ≡ true) × Made (last_cells before) n colour (last_cells after) c
+
+-- it is the top free cell, or all stays
+abbrev pub TakesLast : LastHeap → ℕ → Colour → Option ℕ → LastHeap → Type 0
+TakesLast before n colour None after = after ≡ before
+TakesLast before n colour (Some c) after = MadeLast before n colour c after
 
 -- a white cell becomes the newest grey cell
 abbrev pub ShadesLast : LastHeap → ℕ → ℕ → Result Unit Refusal → LastHeap → Type 0
@@ -69,7 +74,7 @@ AnswersNewest heap n (Ok c) = Newest (greys heap n) c
 AnswersNewest heap n (Err why) = Unit {0}
 
 -- the freed cells come on top, the highest last, and no cell of the node is grey
-abbrev pub ReclaimsLast : LastHeap → ℕ → Result (ℕ × ℕ) Refusal → LastHeap → Type 0
+abbrev pub ReclaimsLast : LastHeap → ℕ → Result Tally Refusal → LastHeap → Type 0
 ReclaimsLast before n (Ok counts) after =
     (frees after ≡ put (frees before) n (frees before n ++ freed_cells (last_cells before n))) × (greys after ≡ put (greys before) n [])
 ReclaimsLast before n (Err why) after = after ≡ before

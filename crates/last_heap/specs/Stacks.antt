@@ -34,5 +34,5 @@ Takes before n None after = (stack before n ≡ []) × (after ≡ before)
 Takes before n (Some c) after = stack before ≡ on_top (stack after) n c
 
 -- at each node the stack has each cell that passes once, and no other
-abbrev pub Stacked : (Cell → Bool) → Cells → (ℕ → List ℕ) → Type 0
-Stacked test cells stacks = (n : ℕ) → n < 16 → Once (λ c. nat_lt c 64 && test (cells n c)) (stacks n)
+pub record Stacked (test : Cell → Bool) (cells : Cells) (stacks : ℕ → List ℕ) : Type 0 where
+  pub once : (n : ℕ) → n < 16 → Once (λ c. nat_lt c 64 && test (cells n c)) (stacks n)

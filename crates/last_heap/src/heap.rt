@@ -9,7 +9,7 @@ use table::Table;
 #[derive(Clone, Copy)]
 pub struct LastHeap {
     table: Table,
-    // for each node its free cells, and its grey ones
+    // for each node its free cells, and its grey ones: one type twice, so that each call is written and proved once
     free: Stacks,
     grey: Stacks,
     ghost unused: { Stacked is_free (cells_of table) (stack free) },
@@ -18,4 +18,5 @@ pub struct LastHeap {
 
 mod calls;
 mod cells;
+mod node;
 mod stacks;

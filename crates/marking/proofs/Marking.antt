@@ -6,16 +6,13 @@ use Rattle.model.specs.Tables.{one, total}
 use Rattle.model.specs.Cells.{Cells, is_grey, is_black}
 use Rattle.model.specs.Heaps.{GreyCell}
 use Rattle.model.specs.References.{Names}
-use Rattle.model.specs.Refusals.{number}
 use Rattle.model.specs.declared.reference.Reference.{Reference}
-use Rattle.model.specs.declared.refusal.Refusal.{Refusal}
-use Rattle.model.specs.declared.refusal.Refusal.TheVariants.{NoSuchNode, NoSuchSlot, NoFreeCell, ToItself, NoRoom, BadSize, NotActive, NotInTransit, TooManySent, NotInUse, NotGrey, OutOfRange}
 use Rattle.marking.specs.Reached.{Held, Named, Around, Reached}
 use Rattle.marking.specs.Reached.Reached.{held, grey, slot}
 use Rattle.marking.specs.Darkened.{is_dark, Darkened}
 use Rattle.marking.specs.Shaded.{Shaded, Scanned, Unused}
 use Rattle.cell_list.specs.Lists.{Once}
-use Rattle.marking.specs.Marked.{has_turned, Marked, Unmarked}
+use Rattle.marking.specs.Marked.{has_turned, Marked}
 use Rattle.model.proofs.Totals.{total_lt}
 use Rattle.marking.proofs.Colours.{grey_is_dark, grey_not_black, dark_not_grey, black_is_used}
 use Rattle.marking.proofs.Darkening.{darkened_weaker, darkened_more, unused_weaker, unused_before, named_before, named_after}
@@ -113,17 +110,3 @@ module _ (n : ℕ) (roots : List Reference) (before after : Cells) where
       used = λ c r. and_from _ _ (lt-ltb c 64 (reached_low n roots before c r)) (sym (marking.darkened.used c) ∙ black_is_used (after n c) (black c r));
       each = once;
     }
-
-pub unmarked : (n : ℕ) (roots : List Reference) (before : Cells) (stays : Type 0) (why : Refusal) → number why ≡ 15 → n < 16 → Unused (Reached before n roots) n before → Unmarked why n roots before stays
-unmarked n roots before stays NotInUse e near unused = (near, unused)
-unmarked n roots before stays NoSuchNode e near unused = absurd (omega arith)
-unmarked n roots before stays NoSuchSlot e near unused = omega arith
-unmarked n roots before stays NoFreeCell e near unused = omega arith
-unmarked n roots before stays NotGrey e near unused = omega arith
-unmarked n roots before stays OutOfRange e near unused = omega arith
-unmarked n roots before stays ToItself e near unused = omega arith
-unmarked n roots before stays NoRoom e near unused = omega arith
-unmarked n roots before stays BadSize e near unused = omega arith
-unmarked n roots before stays NotActive e near unused = omega arith
-unmarked n roots before stays NotInTransit e near unused = omega arith
-unmarked n roots before stays TooManySent e near unused = omega arith

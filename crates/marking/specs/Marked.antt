@@ -5,7 +5,7 @@ use Rattle.model.specs.Cells.{Cells, is_grey, is_black}
 use Rattle.model.specs.Heaps.{in_use}
 use Rattle.model.specs.declared.reference.Reference.{Reference}
 use Rattle.model.specs.declared.refusal.Refusal.{Refusal}
-use Rattle.model.specs.declared.refusal.Refusal.TheVariants.{NoSuchNode, NoSuchSlot, NoFreeCell, ToItself, NoRoom, BadSize, NotActive, NotInTransit, TooManySent, NotInUse, NotGrey, OutOfRange}
+use Rattle.model.specs.declared.refusal.Refusal.TheVariants.{NoSuchNode, NotInUse}
 use Rattle.cell_list.specs.Lists.{listed, Once}
 use Rattle.cell_list.specs.declared.list.CellList.{CellList}
 use Rattle.marking.specs.Reached.{Reached}
@@ -25,20 +25,11 @@ pub record Marked (n : ℕ) (roots : List Reference) (before after : Cells) (sca
   -- the scanned cells are those that turned black, each listed once
   pub each : Once (has_turned n before after) scanned
 
--- why marking is refused; stays says that the heap is as it was
+-- why marking is refused: there is no such node, or a reached cell is not in use; stays says that the heap is as it was
 abbrev pub Unmarked : Refusal → ℕ → List Reference → Cells → Type 0 → Type 0
-Unmarked NoSuchNode n roots before stays = (16 ≤ n) × stays
-Unmarked NotInUse n roots before stays = (n < 16) × Unused (Reached before n roots) n before
-Unmarked NoSuchSlot n roots before stays = ⊥
-Unmarked NoFreeCell n roots before stays = ⊥
-Unmarked NotGrey n roots before stays = ⊥
-Unmarked OutOfRange n roots before stays = ⊥
-Unmarked ToItself n roots before stays = ⊥
-Unmarked NoRoom n roots before stays = ⊥
-Unmarked BadSize n roots before stays = ⊥
-Unmarked NotActive n roots before stays = ⊥
-Unmarked NotInTransit n roots before stays = ⊥
-Unmarked TooManySent n roots before stays = ⊥
+Unmarked why n roots before stays =
+    ((why ≡ NoSuchNode) × (16 ≤ n) × stays)
+    ⊎ ((why ≡ NotInUse) × (n < 16) × Unused (Reached before n roots) n before)
 
 abbrev pub Marks : ℕ → List Reference → Cells → Result CellList Refusal → Cells → Type 0 → Type 0
 Marks n roots before (Ok scanned) after stays = Marked n roots before after (listed scanned)

@@ -3,8 +3,8 @@
 use Rattle.std.specs.Prelude.{◌≡◌, ℕ, true, false, ◌⊎◌, Ok, Err, Result}
 use Rattle.model.specs.Cells.{Cells, is_black}
 use Rattle.model.specs.Heaps.{in_use}
-use Rattle.model.specs.Refusals.{number}
 use Rattle.model.specs.declared.refusal.Refusal.{Refusal}
+use Rattle.model.specs.declared.refusal.Refusal.TheVariants.{NotInUse}
 use Rattle.marking.specs.Reached.{Named}
 use Rattle.marking.specs.Darkened.{is_dark}
 
@@ -27,8 +27,8 @@ pub record Unused (Which : ℕ → Type 0) (n : ℕ) (cells : Cells) : Type 0 wh
 
 abbrev pub Shades : {X : Type 0} → (ℕ → Type 0) → ℕ → Cells → Result X Refusal → Cells → Type 0
 Shades Which n before (Ok done) after = Shaded Which n before after
-Shades Which n before (Err why) after = (number why ≡ 15) × Unused Which n before
+Shades Which n before (Err why) after = (why ≡ NotInUse) × Unused Which n before
 
 abbrev pub Scans : {X : Type 0} → ℕ → ℕ → Cells → Result X Refusal → Cells → Type 0
 Scans n b before (Ok done) after = Scanned n b before after
-Scans n b before (Err why) after = (number why ≡ 15) × Unused (Named before n b) n before
+Scans n b before (Err why) after = (why ≡ NotInUse) × Unused (Named before n b) n before

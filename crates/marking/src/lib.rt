@@ -13,6 +13,8 @@ ghost use Rattle.marking.specs.Marked.{Marks};
 use cell_list::CellList;
 use model::{Heap, Reference, Refusal, ask};
 
+// Heap and node stay two parameters: in a struct the heap would be a borrow, and each contract would owe besides that it is still the same one.
+
 // Shades what a reference names, if it is a cell of this node.
 fn shade_own<H: Heap>(heap: &mut H, node: u8, reference: Reference) -> Result<(), Refusal>
     ensures darkens { Darkened (λ c. Names node c reference) node (H.cells heap.old) (H.cells heap.new) }
@@ -37,7 +39,8 @@ fn shade_roots<H: Heap>(heap: &mut H, node: u8, roots: &[Reference]) -> Result<(
 
 // Shades what the slots of a cell name.
 fn shade_slots<H: Heap>(heap: &mut H, node: u8, cell: u8) -> Result<(), Refusal>
-    requires { (node < 16) × (in_use (H.cells heap.old) node cell ≡ true) }
+    requires node { node < 16 }
+    requires used { in_use (H.cells heap.old) node cell ≡ true }
     ensures darkens { Darkened (Named (H.cells heap.old) node cell) node (H.cells heap.old) (H.cells heap.new) }
     ensures shades { Shades (Named (H.cells heap.old) node cell) node (H.cells heap.old) result (H.cells heap.new) }
 {
@@ -51,7 +54,9 @@ fn shade_slots<H: Heap>(heap: &mut H, node: u8, cell: u8) -> Result<(), Refusal>
 
 // Scans a grey cell: what its slots name is shaded, and then it turns black.
 fn scan<H: Heap>(heap: &mut H, node: u8, cell: u8) -> Result<(), Refusal>
-    requires { (node < 16) × ((cell < 64) × (is_grey (H.cells heap.old node cell) ≡ true)) }
+    requires node { node < 16 }
+    requires cell { cell < 64 }
+    requires grey { is_grey (H.cells heap.old node cell) ≡ true }
     ensures darkens { Darkened (Around (H.cells heap.old) node cell) node (H.cells heap.old) (H.cells heap.new) }
     ensures scans { Scans node cell (H.cells heap.old) result (H.cells heap.new) }
 {

@@ -15,11 +15,6 @@ unfolding total
 total_front zero f = omega arith
 total_front (suc n) f = ap (λ a. a + f (suc n)) (total_front n f) ∙ add_assoc (f 0) (total n (λ c. f (suc c))) (f (suc n))
 
-pub total_add : (n : ℕ) (f g : ℕ → ℕ) → total n (λ k. f k + g k) ≡ total n f + total n g
-unfolding total
-total_add zero f g = refl
-total_add (suc n) f g = omega (arith, total_add n f g)
-
 -- every value is m
 pub total_all : (n m : ℕ) → total n (λ k. m) ≡ n * m
 unfolding total

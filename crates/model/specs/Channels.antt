@@ -5,13 +5,14 @@ use Rattle.model.specs.Refusals.{Questions, Answers}
 use Rattle.model.specs.Messages.{Added, for, how_many}
 use Rattle.model.specs.declared.message.Message.{Message}
 use Rattle.model.specs.declared.refusal.Refusal.{Refusal}
+use Rattle.model.specs.declared.refusal.Refusal.TheVariants.{NoSuchNode, NoRoom}
 
 -- do fewer wait than the capacity
 abbrev pub put_asks : List Message → ℕ → Questions
-put_asks waiting capacity = (9, nat_lt (length waiting) capacity) ∷ []
+put_asks waiting capacity = (NoRoom, nat_lt (length waiting) capacity) ∷ []
 
 abbrev pub take_asks : ℕ → Questions
-take_asks n = (1, nat_lt n 16) ∷ []
+take_asks n = (NoSuchNode, nat_lt n 16) ∷ []
 
 -- what each call means of a channel with these messages waiting and this capacity: before the call, its arguments, its answer, and the channel after it
 module _ {S : Type 0} (waiting : S → List Message) (capacity : S → ℕ) where

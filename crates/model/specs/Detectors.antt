@@ -4,34 +4,35 @@ use Rattle.std.specs.Prelude.{◌≡◌, ℕ, ◌<◌, Bool, true, false, not, �
 use Rattle.model.specs.Refusals.{Questions, Answers}
 use Rattle.model.specs.Detection.{Computation, Detection, Quiet, begun, sending, receiving, idling}
 use Rattle.model.specs.declared.refusal.Refusal.{Refusal}
+use Rattle.model.specs.declared.refusal.Refusal.TheVariants.{NoSuchNode, ToItself, BadSize, NotActive, NotInTransit, TooManySent}
 use Rattle.model.specs.declared.turn.Turn.{Turn}
 use Rattle.model.specs.declared.turn.Turn.TheVariants.{Done, Nothing}
 
 -- the questions, in order: is there such a node; do sender and receiver differ; is the size from 2 to 16;
 -- is the node active; is such a message in transit; were fewer than 16,384 sent
 abbrev pub begin_asks : ℕ → Questions
-begin_asks n = (11, (nat_le 2 n && nat_le n 16)) ∷ []
+begin_asks n = (BadSize, (nat_le 2 n && nat_le n 16)) ∷ []
 
 abbrev pub sent_asks : Computation → ℕ → ℕ → Questions
 sent_asks c from to =
-    (1, (nat_lt from c.size && nat_lt to c.size))
-    ∷ (8, not (from == to))
-    ∷ (12, c.active from)
-    ∷ (14, nat_lt c.sent 16384)
+    (NoSuchNode, (nat_lt from c.size && nat_lt to c.size))
+    ∷ (ToItself, not (from == to))
+    ∷ (NotActive, c.active from)
+    ∷ (TooManySent, nat_lt c.sent 16384)
     ∷ []
 
 abbrev pub received_asks : Computation → ℕ → ℕ → Questions
 received_asks c to from =
-    (1, (nat_lt to c.size && nat_lt from c.size))
-    ∷ (8, not (to == from))
-    ∷ (13, nat_lt 0 (c.transit from to))
+    (NoSuchNode, (nat_lt to c.size && nat_lt from c.size))
+    ∷ (ToItself, not (to == from))
+    ∷ (NotInTransit, nat_lt 0 (c.transit from to))
     ∷ []
 
 abbrev pub idle_asks : Computation → ℕ → Questions
-idle_asks c i = (1, nat_lt i c.size) ∷ (12, c.active i) ∷ []
+idle_asks c i = (NoSuchNode, nat_lt i c.size) ∷ (NotActive, c.active i) ∷ []
 
 abbrev pub turn_asks : Computation → ℕ → Questions
-turn_asks c i = (1, nat_lt i c.size) ∷ []
+turn_asks c i = (NoSuchNode, nat_lt i c.size) ∷ []
 
 -- it has begun anew with n nodes
 pub record Begun (n : ℕ) (after : Detection) : Type 0 where

@@ -6,8 +6,10 @@ use Rattle.model.specs.Refusals.{Questions, Answers}
 use Rattle.model.specs.Cells.{Cell, Cells, empty_slots, slots_of, is_free, is_used, is_grey, written, shaded, blackened, change, reclaim, freed_count, kept_count}
 use Rattle.model.specs.Cells.Cell.{free, used}
 use Rattle.model.specs.declared.colour.Colour.{Colour}
+use Rattle.model.specs.declared.tally.Tally.{Tally}
 use Rattle.model.specs.declared.reference.Reference.{Reference}
 use Rattle.model.specs.declared.refusal.Refusal.{Refusal}
+use Rattle.model.specs.declared.refusal.Refusal.TheVariants.{NoSuchNode, NoSuchSlot, NoFreeCell, NotInUse, NotGrey}
 
 abbrev pub in_use : Cells → ℕ → ℕ → Bool
 in_use cells n c = nat_lt c 64 && is_used (cells n c)
@@ -17,19 +19,19 @@ some_free cells n = is_some (first 64 (λ c. is_free (cells n c)))
 
 -- the questions, in order: is there such a node, such a slot, a free cell; is the cell in use; is it grey
 abbrev pub node_asks : ℕ → Questions
-node_asks n = (1, nat_lt n 16) ∷ []
+node_asks n = (NoSuchNode, nat_lt n 16) ∷ []
 
 abbrev pub make_asks : Cells → ℕ → Questions
-make_asks cells n = (1, nat_lt n 16) ∷ (7, some_free cells n) ∷ []
+make_asks cells n = (NoSuchNode, nat_lt n 16) ∷ (NoFreeCell, some_free cells n) ∷ []
 
 abbrev pub cell_asks : Cells → ℕ → ℕ → Questions
-cell_asks cells n c = (1, nat_lt n 16) ∷ (15, in_use cells n c) ∷ []
+cell_asks cells n c = (NoSuchNode, nat_lt n 16) ∷ (NotInUse, in_use cells n c) ∷ []
 
 abbrev pub slot_asks : Cells → ℕ → ℕ → ℕ → Questions
-slot_asks cells n c i = (1, nat_lt n 16) ∷ (3, nat_lt i 4) ∷ (15, in_use cells n c) ∷ []
+slot_asks cells n c i = (NoSuchNode, nat_lt n 16) ∷ (NoSuchSlot, nat_lt i 4) ∷ (NotInUse, in_use cells n c) ∷ []
 
 abbrev pub blacken_asks : Cells → ℕ → ℕ → Questions
-blacken_asks cells n c = (1, nat_lt n 16) ∷ (15, in_use cells n c) ∷ (16, is_grey (cells n c)) ∷ []
+blacken_asks cells n c = (NoSuchNode, nat_lt n 16) ∷ (NotInUse, in_use cells n c) ∷ (NotGrey, is_grey (cells n c)) ∷ []
 
 -- some free cell c of node n is in use now, with empty slots
 pub record Made (before : Cells) (n : ℕ) (colour : Colour) (after : Cells) (c : ℕ) : Type 0 where
@@ -46,10 +48,10 @@ GreyCell cells n None = (c : ℕ) → c < 64 → is_grey (cells n c) ≡ false
 GreyCell cells n (Some c) = (c < 64) × (is_grey (cells n c) ≡ true)
 
 -- the cells of node n are reclaimed; the answer is how many were freed and how many kept
-pub record Reclaimed (before : Cells) (n : ℕ) (after : Cells) (counts : ℕ × ℕ) : Type 0 where
+pub record Reclaimed (before : Cells) (n : ℕ) (after : Cells) (counts : Tally) : Type 0 where
   pub cells : after ≡ reclaim before n
-  pub freed : counts.0 ≡ freed_count before n
-  pub kept : counts.1 ≡ kept_count before n
+  pub freed : counts.freed ≡ freed_count before n
+  pub kept : counts.kept ≡ kept_count before n
 
 -- what each call means of a heap whose cells are given by `cells`: before the call, its arguments, its answer, and the heap after it
 module _ {S : Type 0} (cells : S → Cells) where
@@ -75,5 +77,5 @@ module _ {S : Type 0} (cells : S → Cells) where
   abbrev pub AnswersGrey : S → ℕ → Result (Option ℕ) Refusal → Type 0
   AnswersGrey heap n r = Answers (node_asks n) r (Unit {0}) (GreyCell (cells heap) n)
 
-  abbrev pub Reclaims : S → ℕ → Result (ℕ × ℕ) Refusal → S → Type 0
+  abbrev pub Reclaims : S → ℕ → Result Tally Refusal → S → Type 0
   Reclaims before n r after = Answers (node_asks n) r (after ≡ before) (Reclaimed (cells before) n (cells after))

@@ -4,6 +4,7 @@ use Rattle.std.specs.Prelude.{ℕ, ◌+◌, Bool, true, not, ◌&&◌, [], ◌�
 use Rattle.model.specs.Refusals.{Questions}
 use Rattle.model.specs.declared.kind.Kind.{Kind}
 use Rattle.model.specs.declared.kind.Kind.TheVariants.{Open, Opened, Start, Mark, Ref, RefAck, Sweep, Swept}
+use Rattle.model.specs.declared.refusal.Refusal.TheVariants.{OutOfRange}
 
 abbrev pub kind_number : Kind → ℕ
 kind_number Open = 1
@@ -30,4 +31,4 @@ abbrev pub fits : ℕ → ℕ → Kind → Bool
 fits from to kind = nat_lt from 16 && (nat_lt to 16 && (not (from == to) && carries to kind))
 
 abbrev pub message_asks : ℕ → ℕ → Kind → Questions
-message_asks from to kind = (24, fits from to kind) ∷ []
+message_asks from to kind = (OutOfRange, fits from to kind) ∷ []

@@ -1,5 +1,5 @@
 -- The numbers of refusals, and the questions that a call is asked: they go in order, and the first no is the refusal.
--- A question is its number and whether the answer is yes.
+-- A question is the refusal that a no gives, and whether the answer is yes.
 use Rattle.std.specs.Prelude.{◌≡◌, ℕ, Bool, cond, List, [], ◌∷◌, Some, None, Ok, Err, Option, Result}
 use Rattle.model.specs.declared.refusal.Refusal.{Refusal}
 use Rattle.model.specs.declared.refusal.Refusal.TheVariants.{NoSuchNode, NoSuchSlot, NoFreeCell, ToItself, NoRoom, BadSize, NotActive, NotInTransit, TooManySent, NotInUse, NotGrey, OutOfRange}
@@ -20,14 +20,14 @@ number NotGrey = 16
 number OutOfRange = 24
 
 abbrev pub Questions : Type 0
-Questions = List (ℕ × Bool)
+Questions = List (Refusal × Bool)
 
--- the number of the first question that is answered no
-abbrev pub first_no : Questions → Option ℕ
+-- the refusal of the first question that is answered no
+abbrev pub first_no : Questions → Option Refusal
 first_no [] = None
 first_no (q ∷ more) = cond q.1 (first_no more) (Some q.0)
 
 -- r answers these questions: where each is yes it is granted, with what that does; else the first no is the refusal, and all stays
 abbrev pub Answers : {X : Type 0} → Questions → Result X Refusal → Type 0 → (X → Type 0) → Type 0
 Answers questions (Ok x) stays does = (first_no questions ≡ None) × does x
-Answers questions (Err why) stays does = (first_no questions ≡ Some (number why)) × stays
+Answers questions (Err why) stays does = (first_no questions ≡ Some why) × stays

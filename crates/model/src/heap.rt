@@ -6,6 +6,7 @@ ghost use Rattle.model.specs.Heaps.{Makes, ReadsSlot, WritesSlot, ReadsColour, S
 use crate::colour::Colour;
 use crate::reference::Reference;
 use crate::refusal::Refusal;
+use crate::tally::Tally;
 
 pub trait Heap {
     // the cells, by node and number
@@ -49,7 +50,7 @@ pub trait Heap {
         ensures { AnswersGrey cells self.now node result };
 
     // Frees the node's white cells and turns its others white; answers how many it freed and how many it kept.
-    fn reclaim(&mut self, node: u8) -> Result<(u8, u8), Refusal>
+    fn reclaim(&mut self, node: u8) -> Result<Tally, Refusal>
         ensures { Reclaims cells self.old node result self.new };
 
     // a cell in use has four slots

@@ -9,6 +9,7 @@ mod kind;
 mod message;
 mod reference;
 mod refusal;
+mod tally;
 mod turn;
 mod written;
 
@@ -20,4 +21,5 @@ pub use kind::Kind;
 pub use message::Message;
 pub use reference::Reference;
 pub use refusal::{Refusal, ask};
+pub use tally::Tally;
 pub use turn::Turn;

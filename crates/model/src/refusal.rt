@@ -4,18 +4,18 @@ ghost use Rattle.model.specs.Refusals.{number};
 
 #[derive(Clone, Copy, Debug)]
 pub enum Refusal {
-    NoSuchNode,
-    NoSuchSlot,
-    NoFreeCell,
-    ToItself,
-    NoRoom,
-    BadSize,
-    NotActive,
-    NotInTransit,
-    TooManySent,
-    NotInUse,
-    NotGrey,
-    OutOfRange,
+    NoSuchNode = 1,
+    NoSuchSlot = 3,
+    NoFreeCell = 7,
+    ToItself = 8,
+    NoRoom = 9,
+    BadSize = 11,
+    NotActive = 12,
+    NotInTransit = 13,
+    TooManySent = 14,
+    NotInUse = 15,
+    NotGrey = 16,
+    OutOfRange = 24,
 }
 
 impl Refusal {
@@ -23,20 +23,7 @@ impl Refusal {
     pub fn number(self) -> u8
         ensures { result ≡ number self }
     {
-        match self {
-            Refusal::NoSuchNode => 1,
-            Refusal::NoSuchSlot => 3,
-            Refusal::NoFreeCell => 7,
-            Refusal::ToItself => 8,
-            Refusal::NoRoom => 9,
-            Refusal::BadSize => 11,
-            Refusal::NotActive => 12,
-            Refusal::NotInTransit => 13,
-            Refusal::TooManySent => 14,
-            Refusal::NotInUse => 15,
-            Refusal::NotGrey => 16,
-            Refusal::OutOfRange => 24,
-        }
+        self as u8
     }
 }
 

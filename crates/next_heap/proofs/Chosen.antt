@@ -1,47 +1,71 @@
--- The cell that a heap which goes round chooses.
-use Rattle.std.proofs.Common.{◌≡◌, ℕ, ◌<◌, true, false, ◌&&◌, ltb, leb, Some, None, Option, sym, refl, ap, ◌∙◌, ap₂}
-use Rattle.std.proofs.lemmas.Bool.{lt-ltb, and_parts, false≢true}
-use Rattle.model.specs.Tables.{first, or_else, is_some}
-use Rattle.model.specs.Cells.{Cell, Cells, is_free, is_grey}
-use Rattle.model.specs.Cells.Cell.{free}
-use Rattle.model.proofs.Firsts.{Found, first_same, first_found}
+-- The cells that a heap which goes round chooses.
+use Rattle.std.proofs.Common.{◌≡◌, ℕ, zero, suc, ◌<◌, Bool, true, false, cond, ◌&&◌, ltb, leb, List, length, get_or, set, replicate, Some, None, ok_or, Option, sym, refl, ap, ◌∙◌, subst, ap₂, arith}
+use Rattle.std.proofs.lemmas.List.{get_or-set_same, get_or-set_other}
+use Rattle.std.proofs.lemmas.Bool.{lt-ltb, and_parts}
+use Rattle.model.specs.Tables.{put, first, or_else, is_some}
+use Rattle.model.specs.Refusals.{Answers}
+use Rattle.model.specs.Cells.{Cells, is_free, is_grey}
+use Rattle.model.specs.Heaps.{make_asks, GreyCell}
+use Rattle.model.specs.declared.refusal.Refusal.TheVariants.{NoSuchNode, NoFreeCell}
+use Rattle.model.proofs.Puts.{is_put}
+use Rattle.model.proofs.Firsts.{Found, first_same, first_found, first_is_some}
+use Rattle.model.proofs.Colours.{from_free}
 use Rattle.cell_set.specs.Sets.{has}
 use Rattle.cell_set.specs.declared.set.CellSet.{CellSet}
-use Rattle.model.proofs.Colours.{from_free}
-use Rattle.next_heap.specs.Next.{next_free, lowest_grey, FreeCell}
+use Rattle.next_heap.specs.Next.{next_cells, starts, next_free, NextFree}
+use Rattle.next_heap.specs.declared.heap.NextHeap.{NextHeap}
 
--- the set has the free cells of the row
-module _ (row : ℕ → Cell) (set : CellSet) (frees : (c : ℕ) → has set c ≡ (ltb c 64 && is_free (row c))) where
-  free_at : (c : ℕ) → c < 64 → has set c ≡ is_free (row c)
-  free_at c h = frees c ∙ ap (λ b. b && is_free (row c)) (lt-ltb c 64 h)
+-- the number passes, or there is none that does
+abbrev Passes : (ℕ → Bool) → Option ℕ → Type 0
+Passes p None = is_some (first 64 p) ≡ false
+Passes p (Some c) = (is_some (first 64 p) ≡ true) × (c < 64) × (p c ≡ true)
 
-  all_frees : first 64 (has set) ≡ first 64 (λ c. is_free (row c))
-  all_frees = first_same 64 (has set) (λ c. is_free (row c)) free_at
-
-  frees_from : (start : ℕ) → first 64 (λ c. leb start c && has set c) ≡ first 64 (λ c. leb start c && is_free (row c))
-  frees_from start =
-      first_same 64 (λ c. leb start c && has set c) (λ c. leb start c && is_free (row c)) (λ c h. ap (λ b. leb start c && b) (free_at c h))
-
-  pub chosen : (start : ℕ) → or_else (first 64 (λ c. leb start c && has set c)) (first 64 (has set)) ≡ next_free row start
-  chosen start = ap₂ or_else (frees_from start) all_frees
-
--- what is chosen where p is the lowest free cell
-abbrev OneOf : (ℕ → Cell) → Option ℕ → Option ℕ → Type 0
-OneOf row p None = is_some p ≡ false
-OneOf row p (Some c) = (is_some p ≡ true) × (c < 64) × (row c ≡ free)
-
--- a chosen cell is free, and none is chosen only where none is free
-pub next_is_free : (cells : Cells) (n start : ℕ) → FreeCell cells n (next_free (cells n) start)
-next_is_free cells n start =
-    go (first 64 (λ k. leb start k && is_free (cells n k))) (first 64 (λ k. is_free (cells n k))) (first_found 64 (λ k. leb start k && is_free (cells n k))) (first_found 64 (λ k. is_free (cells n k)))
+first_passes : (p : ℕ → Bool) → Passes p (first 64 p)
+first_passes p = go (first 64 p) refl (first_found 64 p)
   where
-    go : (o p : Option ℕ) → Found 64 (λ k. leb start k && is_free (cells n k)) o → Found 64 (λ k. is_free (cells n k)) p → OneOf (cells n) p (or_else o p)
-    go None None none never = refl
-    go None (Some k) none any = (refl, any.0, from_free (cells n k) any.1)
-    go (Some k) (Some j) found any = (refl, found.0, from_free (cells n k) (and_parts (leb start k) (is_free (cells n k)) found.1).1)
-    go (Some k) None found never =
-        absurd (false≢true (sym (never k found.0) ∙ (and_parts (leb start k) (is_free (cells n k)) found.1).1))
+    go : (o : Option ℕ) → first 64 p ≡ o → Found 64 p o → Passes p o
+    go None e none = ap is_some e
+    go (Some c) e found = (ap is_some e, found.0, found.1)
 
--- the lowest cell of the set of the grey ones
-pub lowest_is_grey : (row : ℕ → Cell) (set : CellSet) → ((c : ℕ) → has set c ≡ is_grey (row c)) → first 64 (has set) ≡ lowest_grey row
-lowest_is_grey row set greys = first_same 64 (has set) (λ c. is_grey (row c)) (λ c h. greys c)
+round_passes : (p : ℕ → Bool) (start : ℕ) → Passes p (or_else (first 64 (λ c. leb start c && p c)) (first 64 p))
+round_passes p start = go (first 64 (λ c. leb start c && p c)) (first_found 64 (λ c. leb start c && p c))
+  where
+    go : (o : Option ℕ) → Found 64 (λ c. leb start c && p c) o → Passes p (or_else o (first 64 p))
+    go None none = first_passes p
+    go (Some c) found = let passes = (and_parts (leb start c) (p c) found.1).1 in (first_is_some 64 p c found.0 passes, found.0, passes)
+
+module _ (heap : NextHeap) (n : ℕ) where
+  -- the next cell of node n, if there is one
+  granted : (near : n < 16) (r : Option ℕ) → r ≡ next_free (next_cells heap n) (starts heap n) → Passes (λ c. is_free (next_cells heap n c)) r
+      → Answers (make_asks (next_cells heap) n) (ok_or r NoFreeCell) (Unit {0}) (NextFree heap n)
+  granted near None is none =
+      (ap₂ (λ a b. cond a (cond b None (Some NoFreeCell)) (Some NoSuchNode)) (lt-ltb n 16 near) none, tt)
+  granted near (Some c) is (some, low, free) =
+      (ap₂ (λ a b. cond a (cond b None (Some NoFreeCell)) (Some NoSuchNode)) (lt-ltb n 16 near) some, (sym is, low, from_free (next_cells heap n c) free))
+
+  -- the first cell of the set of its free cells, going round
+  pub chooses : (set : CellSet) (r : Option ℕ) → n < 16 → ((c : ℕ) → has set c ≡ (ltb c 64 && is_free (next_cells heap n c)))
+      → r ≡ or_else (first 64 (λ c. leb (starts heap n) c && has set c)) (first 64 (has set))
+      → Answers (make_asks (next_cells heap) n) (ok_or r NoFreeCell) (Unit {0}) (NextFree heap n)
+  chooses set r near frees is =
+      let free : ℕ → Bool = λ c. is_free (next_cells heap n c) in
+      let from = starts heap n in
+      let at : (c : ℕ) → c < 64 → has set c ≡ free c = λ c h. frees c ∙ ap (λ b. b && free c) (lt-ltb c 64 h) in
+      let same : r ≡ next_free (next_cells heap n) from = is ∙ ap₂ or_else (first_same 64 (λ c. leb from c && has set c) (λ c. leb from c && free c) (λ c h. ap (λ b. leb from c && b) (at c h))) (first_same 64 (has set) free at) in
+      granted near r same (subst (Passes free) (sym same) (round_passes free from))
+
+-- the lowest cell of the set of a node's grey cells
+pub grey_lowest : (cells : Cells) (n : ℕ) (set : CellSet) (r : Option ℕ) → ((c : ℕ) → has set c ≡ is_grey (cells n c)) → r ≡ first 64 (has set) → GreyCell cells n r
+grey_lowest cells n set r greys is =
+    subst (GreyCell cells n) (sym (is ∙ first_same 64 (has set) (λ c. is_grey (cells n c)) (λ c h. greys c))) (first_found 64 (λ c. is_grey (cells n c)))
+
+-- where node n starts is changed
+pub started : (xs : List ℕ) (n start m : ℕ) → length xs ≡ 16 → n < 16 → get_or (set xs n start) m 0 ≡ put (λ k. get_or xs k 0) n start m
+started xs n start m wide near =
+    ap (λ f. f m) (is_put (λ k. get_or xs k 0) (λ k. get_or (set xs n start) k 0) n start (get_or-set_same xs n start 0 (omega arith)) (λ k off. get_or-set_other xs n k start 0 off))
+
+-- a node that nothing was made on starts at 0
+pub fresh : (k n : ℕ) → get_or {A = ℕ} (replicate k 0) n 0 ≡ 0
+fresh zero n = refl
+fresh (suc k) zero = refl
+fresh (suc k) (suc n) = fresh k n

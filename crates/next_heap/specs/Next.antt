@@ -1,10 +1,9 @@
 -- The choices of a heap that goes round: each node has a cell to start from, and the next free cell is made.
 -- Of grey cells the lowest is answered.
-use Rattle.std.specs.Prelude.{◌≡◌, ℕ, ◌+◌, ◌<◌, true, false, ◌&&◌, Some, None, Ok, Err, Option, Result, nat_le, slice_index}
+use Rattle.std.specs.Prelude.{◌≡◌, ℕ, ◌+◌, ◌<◌, ◌&&◌, Some, Ok, Err, Option, Result, nat_le, slice_index}
 use Rattle.model.specs.Tables.{put, first, or_else}
 use Rattle.model.specs.Cells.{Cell, Cells, is_free, is_grey}
 use Rattle.model.specs.Cells.Cell.{free}
-use Rattle.model.specs.Heaps.{some_free}
 use Rattle.model.specs.declared.refusal.Refusal.{Refusal}
 use Rattle.table.specs.Tables.{cells_of}
 use Rattle.next_heap.specs.declared.heap.NextHeap.{NextHeap}
@@ -26,10 +25,9 @@ next_free row start = or_else (first 64 (λ c. nat_le start c && is_free (row c)
 abbrev pub lowest_grey : (ℕ → Cell) → Option ℕ
 lowest_grey row = first 64 (λ c. is_grey (row c))
 
--- some free cell of node n, or none exactly where it has none
-abbrev pub FreeCell : Cells → ℕ → Option ℕ → Type 0
-FreeCell cells n None = some_free cells n ≡ false
-FreeCell cells n (Some c) = (some_free cells n ≡ true) × (c < 64) × (cells n c ≡ free)
+-- cell c, which is free, is the next of node n
+abbrev pub NextFree : NextHeap → ℕ → ℕ → Type 0
+NextFree heap n c = (next_free (next_cells heap n) (starts heap n) ≡ Some c) × (c < 64) × (next_cells heap n c ≡ free)
 
 -- the cell that is made, and where the node starts then
 abbrev pub MakesNext : NextHeap → ℕ → Result ℕ Refusal → NextHeap → Type 0

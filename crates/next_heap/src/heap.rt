@@ -4,7 +4,7 @@ use table::Table;
 #[derive(Clone, Copy)]
 pub struct NextHeap {
     table: Table,
-    // for each node, the cell after the one last made
+    // for each node, the cell after the one last made: a choice of this heap alone, so no part of the table
     start: [u8; 16],
 }
 

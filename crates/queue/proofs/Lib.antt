@@ -1,4 +1,5 @@
 pub mod Held
 mod Lanes
+mod Places
 mod Shifting
 mod Taken

@@ -1,10 +1,10 @@
 -- What a queue holds, and what is added to it and taken from it.
 -- The messages for one node stand in its lane, in the order in which they were put.
-use Rattle.std.specs.Prelude.{◌≡◌, ℕ, ◌<◌, ◌≤◌, true, List, [], ◌∷◌, ◌++◌, length, take, Some, None, Ok, Err, filter, Option, Result, slice_index_or}
-use Rattle.std.specs.List.{slice_get, remove}
+use Rattle.std.specs.Prelude.{◌≡◌, ℕ, ◌≤◌, List, [], ◌∷◌, ◌++◌, length, take, Ok, Err, filter, Option, Result}
+use Rattle.std.specs.List.{slice_get, remove, enumerate_from}
+use Rattle.std.specs.Option.{option_map}
 use Rattle.model.specs.Tables.{put}
 use Rattle.model.specs.Messages.{for}
-use Rattle.model.specs.Channels.{Delivered}
 use Rattle.model.specs.declared.message.Message.{Message}
 use Rattle.model.specs.declared.refusal.Refusal.{Refusal}
 use Rattle.queue.specs.declared.queue.Queue.{Queue}
@@ -36,17 +36,13 @@ abbrev pub PutsLast : Queue → Message → Result Unit Refusal → Queue → Ty
 PutsLast before m (Ok _) after = lanes after ≡ lanes_with m (lanes before)
 PutsLast before m (Err why) after = after ≡ before
 
--- where the message for node n stands that has `ahead` others for n before it
-abbrev pub Stands : List Message → ℕ → ℕ → Option ℕ → Type 0
-Stands messages n ahead None = length (lane n messages) ≤ ahead
-Stands messages n ahead (Some at) = (length (lane n (take at messages)) ≡ ahead) × (at < length messages) × ((d : Message) → for n (slice_index_or messages at d) ≡ true)
+-- those for node n, each with its place among all; the places start at i
+abbrev pub placed : ℕ → ℕ → List Message → List (ℕ × Message)
+placed n i messages = filter (λ p. for n p.1) (enumerate_from i messages)
 
--- m, number k of the lane of node n, is gone, and nothing else has changed
-pub record Picked (before : Queue) (n k : ℕ) (m : Message) (after : Queue) : Type 0 where
-  pub delivered : Delivered queued limit_of before n m after
-  pub within : k < length (lanes before n)
-  pub which : slice_get (lanes before n) k ≡ Some m
-  pub left : lanes after ≡ lanes_without n k (lanes before)
+-- the place of number k of the lane of node n
+abbrev pub place_of : ℕ → List Message → ℕ → Option ℕ
+place_of n messages k = option_map (λ p. p.0) (slice_get (placed n 0 messages) k)
 
 -- there is such a number in the lane, unless the lane is empty
 abbrev pub Reaches : List Message → ℕ → Type 0

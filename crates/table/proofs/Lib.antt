@@ -1,2 +1,3 @@
 pub mod Held
-mod Changed
+mod Cells
+mod Nodes

@@ -1,16 +1,10 @@
-// A cell is free, or black, or grey, or white: it is what the first of these sets says that has it, and white where none has.
-mod changing;
+// The cells of sixteen nodes: a row of cells for each.
 mod reading;
 mod writing;
 
-use cell_set::CellSet;
-use model::Reference;
+use crate::row::Row;
 
 #[derive(Clone, Copy)]
 pub struct Table {
-    free: [CellSet; 16],
-    black: [CellSet; 16],
-    grey: [CellSet; 16],
-    // slot i of cell c of node n stands at 256 n + 4 c + i
-    slots: [Option<Reference>; 4096],
+    rows: [Row; 16],
 }

@@ -21,10 +21,7 @@ impl CellList {
     pub fn pop(&mut self) -> Option<u8>
         ensures { Popped self.old result self.new }
     {
-        if self.len == 0 {
-            return None;
-        }
-        self.len -= 1;
+        self.len = self.len.checked_sub(1)?;
         Some(self.cells[self.len])
     }
 
@@ -32,15 +29,13 @@ impl CellList {
     pub fn remove(&mut self, cell: u8)
         ensures { listed self.new ≡ without cell (listed self.old) }
     {
-        let mut left = 0;
-        for i in 0..self.len {
-            let here = self.cells[i];
-            if here != cell {
-                self.cells[left] = here;
-                left += 1;
+        let old = *self;
+        self.clear();
+        for here in old.items() {
+            if *here != cell {
+                self.push(*here);
             }
         }
-        self.len = left;
     }
 
     pub fn clear(&mut self)

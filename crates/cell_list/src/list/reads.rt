@@ -18,16 +18,13 @@ impl CellList {
     pub fn items(&self) -> &[u8]
         ensures { result.now ≡ listed self.now }
     {
-        &self.cells[0..self.len]
+        &self.cells[..self.len]
     }
 
     // The newest, if there is one.
     pub fn last(&self) -> Option<u8>
         ensures { Newest (listed self.now) result }
     {
-        if self.len == 0 {
-            return None;
-        }
-        Some(self.cells[self.len - 1])
+        self.items().last().copied()
     }
 }

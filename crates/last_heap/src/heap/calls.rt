@@ -1,11 +1,12 @@
 // Making a heap, and what it chooses.
-ghost use Rattle.std.specs.Prelude.{◌≡◌, ◌<◌};
+ghost use Rattle.std.specs.Prelude.{◌≡◌};
 ghost use Rattle.model.specs.Cells.{all_free};
 ghost use Rattle.model.specs.Heaps.{GreyCell};
 ghost use Rattle.cell_list.specs.Lists.{Newest};
-ghost use Rattle.last_heap.specs.Last.{last_cells, greys, Begins, TakesFree};
+ghost use Rattle.last_heap.specs.Last.{last_cells, greys, Begins, TakesFree, TakesLast};
 
 use super::LastHeap;
+use super::node::Node;
 use super::stacks::{Stacks, all_cells};
 use cell_list::CellList;
 use model::Colour;
@@ -25,12 +26,12 @@ impl LastHeap {
     }
 
     // Takes the top free cell into use, if there is one.
-    pub(super) fn take(&mut self, node: u8, colour: Colour) -> Option<u8>
-        requires { node < 16 }
-        ensures { TakesFree self.old node colour result self.new }
+    pub(super) fn take(&mut self, node: Node, colour: Colour) -> Option<u8>
+        ensures cells { TakesFree self.old node.number colour result self.new }
+        ensures choice { TakesLast self.old node.number colour result self.new }
     {
         let cell = self.free.pop(node)?;
-        self.table.occupy(node, cell, colour);
+        self.table.occupy(node.number, cell, colour);
         if let Colour::Grey = colour {
             self.grey.push(node, cell);
         }
@@ -38,10 +39,9 @@ impl LastHeap {
     }
 
     // The newest grey cell, if there is one.
-    pub(super) fn newest(&self, node: u8) -> Option<u8>
-        requires { node < 16 }
-        ensures cells { GreyCell (last_cells self.now) node result }
-        ensures choice { Newest (greys self.now node) result }
+    pub(super) fn newest(&self, node: Node) -> Option<u8>
+        ensures cells { GreyCell (last_cells self.now) node.number result }
+        ensures choice { Newest (greys self.now node.number) result }
     {
         self.grey.top(node)
     }

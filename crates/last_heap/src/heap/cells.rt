@@ -6,7 +6,8 @@ ghost use Rattle.last_heap.specs.Last.{last_cells, Begins, Stays, MakesLast, Sha
 ghost use Rattle.table.proofs.Held.{sized};
 
 use super::LastHeap;
-use model::{Colour, Heap, Reference, Refusal, ask};
+use super::node::Node;
+use model::{Colour, Heap, Reference, Refusal, Tally};
 
 impl Heap for LastHeap {
     ghost cells = { last_cells };
@@ -24,11 +25,8 @@ impl Heap for LastHeap {
         ensures cells { Makes last_cells self.old node colour result self.new }
         ensures choice { MakesLast self.old node colour result self.new }
     {
-        ask(node < 16, Refusal::NoSuchNode)?;
-        match self.take(node, colour) {
-            Some(cell) => Ok(cell),
-            None => Err(Refusal::NoFreeCell),
-        }
+        let node = Node::new(node)?;
+        self.take(node, colour).ok_or(Refusal::NoFreeCell)
     }
 
     fn slot(&self, node: u8, cell: u8, slot: u8) -> Result<Option<Reference>, Refusal> {
@@ -56,8 +54,9 @@ impl Heap for LastHeap {
         ensures cells { Shades last_cells self.old node cell result self.new }
         ensures choice { ShadesLast self.old node cell result self.new }
     {
-        let white = self.table.white(node)?;
-        self.table.shade(node, cell)?;
+        let node = Node::new(node)?;
+        let white = self.table.white(node.number)?;
+        self.table.shade(node.number, cell)?;
         if white.has(cell) {
             self.grey.push(node, cell);
         }
@@ -68,7 +67,8 @@ impl Heap for LastHeap {
         ensures cells { Blackens last_cells self.old node cell result self.new }
         ensures choice { BlackensLast self.old node cell result self.new }
     {
-        self.table.blacken(node, cell)?;
+        let node = Node::new(node)?;
+        self.table.blacken(node.number, cell)?;
         self.grey.remove(node, cell);
         Ok(())
     }
@@ -77,16 +77,16 @@ impl Heap for LastHeap {
         ensures cells { AnswersGrey last_cells self.now node result }
         ensures choice { AnswersNewest self.now node result }
     {
-        ask(node < 16, Refusal::NoSuchNode)?;
-        Ok(self.newest(node))
+        Ok(self.newest(Node::new(node)?))
     }
 
-    fn reclaim(&mut self, node: u8) -> Result<(u8, u8), Refusal>
+    fn reclaim(&mut self, node: u8) -> Result<Tally, Refusal>
         ensures cells { Reclaims last_cells self.old node result self.new }
         ensures choice { ReclaimsLast self.old node result self.new }
     {
-        let white = self.table.white(node)?;
-        let counts = self.table.reclaim(node)?;
+        let node = Node::new(node)?;
+        let white = self.table.white(node.number)?;
+        let counts = self.table.reclaim(node.number)?;
         self.free.push_each(node, white);
         self.grey.clear(node);
         Ok(counts)

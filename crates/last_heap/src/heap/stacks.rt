@@ -5,6 +5,7 @@ ghost use Rattle.cell_list.specs.Lists.{listed, without, Newest};
 ghost use Rattle.cell_set.specs.Sets.{has};
 ghost use Rattle.last_heap.specs.Stacks.{stack, at_nodes, on_top, rising, falling, Takes};
 
+use super::node::Node;
 use cell_list::CellList;
 use cell_set::CellSet;
 
@@ -13,9 +14,9 @@ pub(super) struct Stacks {
     lists: [CellList; 16],
 }
 
+#[tactic(auto, using(crate::proofs::Replaced::same_stacks, crate::proofs::Replaced::set_list, crate::proofs::Replaced::list_at))]
 impl Stacks {
     // The same cells for every node.
-    #[tactic(auto, using(crate::proofs::Replaced::same_stacks))]
     pub(super) fn each(list: CellList) -> Stacks
         ensures { stack result ≡ at_nodes (listed list) }
     {
@@ -23,53 +24,47 @@ impl Stacks {
     }
 
     // Puts a cell on top.
-    pub(super) fn push(&mut self, node: u8, cell: u8)
-        requires near { node < 16 }
-        requires room { length (stack self.old node) < 64 }
-        ensures { stack self.new ≡ on_top (stack self.old) node cell }
+    pub(super) fn push(&mut self, node: Node, cell: u8)
+        requires { length (stack self.old node.number) < 64 }
+        ensures { stack self.new ≡ on_top (stack self.old) node.number cell }
     {
-        self.lists[node as usize].push(cell);
+        self.lists[node.number as usize].push(cell);
     }
 
     // Takes the top cell away, if there is one.
-    pub(super) fn pop(&mut self, node: u8) -> Option<u8>
-        requires { node < 16 }
-        ensures { Takes self.old node result self.new }
+    pub(super) fn pop(&mut self, node: Node) -> Option<u8>
+        ensures { Takes self.old node.number result self.new }
     {
-        self.lists[node as usize].pop()
+        self.lists[node.number as usize].pop()
     }
 
     // The top cell, if there is one.
-    pub(super) fn top(&self, node: u8) -> Option<u8>
-        requires { node < 16 }
-        ensures { Newest (stack self.now node) result }
+    pub(super) fn top(&self, node: Node) -> Option<u8>
+        ensures { Newest (stack self.now node.number) result }
     {
-        self.lists[node as usize].last()
+        self.lists[node.number as usize].last()
     }
 
     // Takes a cell out wherever it stands.
-    pub(super) fn remove(&mut self, node: u8, cell: u8)
-        requires { node < 16 }
-        ensures { stack self.new ≡ put (stack self.old) node (without cell (stack self.old node)) }
+    pub(super) fn remove(&mut self, node: Node, cell: u8)
+        ensures { stack self.new ≡ put (stack self.old) node.number (without cell (stack self.old node.number)) }
     {
-        self.lists[node as usize].remove(cell);
+        self.lists[node.number as usize].remove(cell);
     }
 
     // Puts the cells of a set on top, the lowest first.
-    pub(super) fn push_each(&mut self, node: u8, cells: CellSet)
-        requires near { node < 16 }
-        requires room { length (stack self.old node ++ rising 64 (has cells)) ≤ 64 }
-        ensures { stack self.new ≡ put (stack self.old) node (stack self.old node ++ rising 64 (has cells)) }
+    pub(super) fn push_each(&mut self, node: Node, cells: CellSet)
+        requires { length (stack self.old node.number ++ rising 64 (has cells)) ≤ 64 }
+        ensures { stack self.new ≡ put (stack self.old) node.number (stack self.old node.number ++ rising 64 (has cells)) }
     {
-        append(&mut self.lists[node as usize], cells);
+        append(&mut self.lists[node.number as usize], cells);
     }
 
     // Takes every cell of the node away.
-    pub(super) fn clear(&mut self, node: u8)
-        requires { node < 16 }
-        ensures { stack self.new ≡ put (stack self.old) node [] }
+    pub(super) fn clear(&mut self, node: Node)
+        ensures { stack self.new ≡ put (stack self.old) node.number [] }
     {
-        self.lists[node as usize].clear();
+        self.lists[node.number as usize].clear();
     }
 }
 

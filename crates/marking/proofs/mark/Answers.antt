@@ -1,4 +1,4 @@
-use Rattle.std.proofs.Common.{◌≡◌, ◌<◌, sym, subst, rules}
+use Rattle.std.proofs.Common.{◌<◌, sym, subst, inr, rules}
 use Rattle.std.proofs.lemmas.Result.{err_from_is_err_and}
 use Rattle.model.specs.Heaps.{GreyCell}
 use Rattle.cell_list.specs.Lists.{listed}
@@ -6,7 +6,7 @@ use Rattle.cell_list.proofs.Counted.{pushed}
 use Rattle.marking.specs.Reached.{Held, Reached}
 use Rattle.marking.specs.Reached.Reached.{held}
 use Rattle.marking.proofs.Darkening.{darkened_weaker, unused_weaker}
-use Rattle.marking.proofs.Marking.{marking_begins, marking_more, marking_stops, marking_ends, fewer_left, unmarked}
+use Rattle.marking.proofs.Marking.{marking_begins, marking_more, marking_stops, marking_ends, fewer_left}
 use Rattle.marking.proofs.Listing.{Listing, listing_begins, listing_room, listing_more, listing_since}
 use Rattle.marking.proofs.mark.Goals as goal
 
@@ -20,7 +20,7 @@ returns-in_err-shade_roots g c =
     let why = c.in_err-shade_roots.ensures.shades in
     record {
       darkens = darkened_weaker (Held n roots) (Reached before n roots) n before (g.H.Heap.cells c.shade_roots.new.heap) (λ k h. held h) c.shade_roots.ensures.darkens;
-      marks = rw (p.1, p.2) (unmarked n roots before (c.shade_roots.new.heap ≡ c.args.heap.now) c.in_err-shade_roots.field-0.0 why.0 near (unused_weaker (Held n roots) (Reached before n roots) n before (λ k h. held h) why.1));
+      marks = rw (p.1, p.2) (inr (why.0, near, unused_weaker (Held n roots) (Reached before n roots) n before (λ k h. held h) why.1));
     }
 
 pub loop-cell-smaller : goal.loop-cell-smaller
@@ -60,7 +60,7 @@ returns-in_err-scan g c =
     let stops = marking_stops n (g.H.Heap.cells c.loop-cell.heap) c.in_ok-cell.field-0 c.in_ok-cell.ensures.1 c.in-Some.cell c.in-Some.is roots before marking (g.H.Heap.cells c.scan.new.heap) c.scan.ensures.darkens why.1 in
     record {
       darkens = stops.0;
-      marks = rw (p.1, p.2) (unmarked n roots before (c.scan.new.heap ≡ c.args.heap.now) c.in_err-scan.field-0.0 why.0 near stops.1);
+      marks = rw (p.1, p.2) (inr (why.0, near, stops.1));
     }
 
 pub returns : goal.returns

@@ -25,6 +25,6 @@ returns-in_err-shade_own g c =
 pub returns : goal.returns
 returns g c =
     let last : c.loop-slot.slot ≡ 4 = omega arith in
-    let four = g.met.H.Heap.sized c.args.heap.now c.args.node c.args.cell (and_parts _ _ c.requires.1).1 in
+    let four = g.met.H.Heap.sized c.args.heap.now c.args.node c.args.cell (and_parts _ _ c.requires.used).1 in
     let ends = reading_ends c.args.node c.args.cell (g.H.Heap.cells c.args.heap.now) (g.H.Heap.cells c.loop-slot.heap) four (rw last at c.loop-slot.invariant) in
     record { darkens = ends.darkened; shades = ends.shaded }

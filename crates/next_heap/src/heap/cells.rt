@@ -6,7 +6,7 @@ ghost use Rattle.next_heap.specs.Next.{next_cells, starts, at_zero, MakesNext, A
 ghost use Rattle.table.proofs.Held.{sized};
 
 use super::NextHeap;
-use model::{Colour, Heap, Reference, Refusal, ask};
+use model::{Colour, Heap, Reference, Refusal, Tally};
 
 impl Heap for NextHeap {
     ghost cells = { next_cells };
@@ -21,15 +21,14 @@ impl Heap for NextHeap {
         self.start = [0; 16];
     }
 
+    #[tactic(auto, using(crate::proofs::Chosen::started))]
     fn make(&mut self, node: u8, colour: Colour) -> Result<u8, Refusal>
         ensures cells { Makes next_cells self.old node colour result self.new }
         ensures choice { MakesNext self.old node result self.new }
     {
-        ask(node < 16, Refusal::NoSuchNode)?;
-        let Some(cell) = self.choose(node) else {
-            return Err(Refusal::NoFreeCell);
-        };
-        self.take(node, cell, colour);
+        let cell = self.choose(node)?;
+        self.table.occupy(node, cell, colour);
+        self.start[node as usize] = cell + 1;
         Ok(cell)
     }
 
@@ -72,11 +71,10 @@ impl Heap for NextHeap {
         ensures cells { AnswersGrey next_cells self.now node result }
         ensures choice { AnswersLowest self.now node result }
     {
-        ask(node < 16, Refusal::NoSuchNode)?;
-        Ok(self.lowest_grey(node))
+        self.lowest_grey(node)
     }
 
-    fn reclaim(&mut self, node: u8) -> Result<(u8, u8), Refusal>
+    fn reclaim(&mut self, node: u8) -> Result<Tally, Refusal>
         ensures cells { Reclaims next_cells self.old node result self.new }
         ensures choice { starts self.new ≡ starts self.old }
     {

@@ -1,49 +1,30 @@
-// Which cell is made, and which grey cell is answered.
-ghost use Rattle.std.specs.Prelude.{◌≡◌, ◌+◌, ◌<◌, ◌&&◌, nat_le};
-ghost use Rattle.model.specs.Tables.{put, put₂, first, or_else};
-ghost use Rattle.model.specs.Cells.{empty_slots};
-ghost use Rattle.model.specs.Cells.Cell.{used};
-ghost use Rattle.model.specs.Heaps.{GreyCell};
+// Which free cell is made, and which grey cell is answered.
+ghost use Rattle.std.specs.Prelude.{◌≡◌, ◌&&◌, nat_le};
+ghost use Rattle.model.specs.Tables.{first, or_else};
+ghost use Rattle.model.specs.Refusals.{Answers};
+ghost use Rattle.model.specs.Heaps.{make_asks, AnswersGrey};
 ghost use Rattle.cell_set.specs.Sets.{has};
-ghost use Rattle.next_heap.specs.Next.{next_cells, starts, next_free, lowest_grey, FreeCell};
+ghost use Rattle.next_heap.specs.Next.{next_cells, NextFree, AnswersLowest};
 
 use super::NextHeap;
 use cell_set::CellSet;
-use model::Colour;
+use model::Refusal;
 
 impl NextHeap {
     // The node's first free cell from where it starts, going round.
-    pub(super) fn choose(&self, node: u8) -> Option<u8>
-        requires { node < 16 }
-        ensures choice { result ≡ next_free (next_cells self.now node) (starts self.now node) }
-        ensures cell { FreeCell (next_cells self.now) node result }
+    pub(super) fn choose(&self, node: u8) -> Result<u8, Refusal>
+        ensures { Answers (make_asks (next_cells self.now) node) result (Unit {0}) (NextFree self.now node) }
     {
-        let Ok(free) = self.table.free(node) else {
-            return None;
-        };
-        from_start(free, self.start[node as usize])
+        let free = self.table.free(node)?;
+        from_start(free, self.start[node as usize]).ok_or(Refusal::NoFreeCell)
     }
 
-    // Takes the cell into use and starts after it from now on.
-    pub(super) fn take(&mut self, node: u8, cell: u8, colour: Colour)
-        requires node { node < 16 }
-        requires cell { cell < 64 }
-        ensures cells { next_cells self.new ≡ put₂ (next_cells self.old) node cell (used colour empty_slots) }
-        ensures starts { starts self.new ≡ put (starts self.old) node (cell + 1) }
+    // The node's lowest grey cell, if it has one.
+    pub(super) fn lowest_grey(&self, node: u8) -> Result<Option<u8>, Refusal>
+        ensures cells { AnswersGrey next_cells self.now node result }
+        ensures choice { AnswersLowest self.now node result }
     {
-        self.table.occupy(node, cell, colour);
-        self.start[node as usize] = cell + 1;
-    }
-
-    pub(super) fn lowest_grey(&self, node: u8) -> Option<u8>
-        requires { node < 16 }
-        ensures choice { result ≡ lowest_grey (next_cells self.now node) }
-        ensures cell { GreyCell (next_cells self.now) node result }
-    {
-        let Ok(grey) = self.table.grey(node) else {
-            return None;
-        };
-        grey.lowest()
+        Ok(self.table.grey(node)?.lowest())
     }
 }
 
@@ -51,8 +32,5 @@ impl NextHeap {
 fn from_start(free: CellSet, start: u8) -> Option<u8>
     ensures { result ≡ or_else (first 64 (λ c. nat_le start c && has free c)) (first 64 (has free)) }
 {
-    match free.lowest_from(start) {
-        Some(cell) => Some(cell),
-        None => free.lowest(),
-    }
+    free.lowest_from(start).or(free.lowest())
 }

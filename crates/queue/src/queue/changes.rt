@@ -1,7 +1,8 @@
 // Adding messages to a queue and taking them from it.
-ghost use Rattle.std.specs.Prelude.{◌≡◌, ℕ, ◌%◌, ◌<◌, ◌≤◌, [], ◌∷◌, ◌++◌, length, Some};
-ghost use Rattle.model.specs.Channels.{Cleared, Increased, Puts, Gives};
-ghost use Rattle.queue.specs.Queues.{queued, limit_of, lanes_with, lanes, PutsLast, Stands, Picked, Reaches, Given};
+ghost use Rattle.std.specs.Prelude.{◌≡◌, ◌%◌, ◌<◌, ◌≤◌, [], ◌∷◌, ◌++◌, length, Some};
+ghost use Rattle.std.specs.List.{slice_get, remove};
+ghost use Rattle.model.specs.Channels.{Cleared, Puts, Gives};
+ghost use Rattle.queue.specs.Queues.{queued, limit_of, lanes, PutsLast, Reaches, Given};
 
 use super::Queue;
 use model::{Message, Refusal, ask};
@@ -14,6 +15,7 @@ impl Queue {
     }
 
     // One message more waits.
+    #[tactic(auto, using(crate::proofs::Lanes::added_last, crate::proofs::Lanes::added_count))]
     pub fn put(&mut self, message: Message) -> Result<(), Refusal>
         ensures waiting { Puts queued limit_of self.old message result self.new }
         ensures choice { PutsLast self.old message result self.new }
@@ -52,23 +54,24 @@ impl Queue {
     // Adds a message at the end.
     fn push(&mut self, message: Message)
         requires { length (queued self.old) < limit_of self.old }
-        ensures waiting { Increased queued limit_of self.old message self.new }
-        ensures choice { lanes self.new ≡ lanes_with message (lanes self.old) }
+        ensures waiting { queued self.new ≡ queued self.old ++ (message ∷ []) }
+        ensures room { limit_of self.new ≡ limit_of self.old }
     {
         self.messages[self.len] = message;
         self.len += 1;
     }
 
     // Takes out the message at a place; those behind it move up.
+    #[tactic(auto, using(crate::proofs::Shifting::moved_up))]
     fn remove(&mut self, at: usize) -> Message
         requires { at < length (queued self.old) }
-        ensures { (n k : ℕ) → Stands (queued self.old) n k (Some at) → Picked self.old n k result self.new }
+        ensures message { slice_get (queued self.old) at ≡ Some result }
+        ensures rest { queued self.new ≡ remove (queued self.old) at }
+        ensures room { limit_of self.new ≡ limit_of self.old }
     {
         let message = self.messages[at];
+        self.messages.copy_within(at + 1..self.len, at);
         self.len -= 1;
-        for i in at..self.len {
-            self.messages[i] = self.messages[i + 1];
-        }
         message
     }
 }
@@ -78,8 +81,6 @@ fn counted_round(pick: u8, count: usize) -> usize
     ensures number { result ≡ pick % count }
     ensures within { count ≤ result → count ≡ 0 }
 {
-    if count == 0 {
-        return usize::from(pick);
-    }
-    usize::from(pick) % count
+    let pick = usize::from(pick);
+    if count == 0 { pick } else { pick % count }
 }

@@ -1,5 +1,4 @@
-use Rattle.std.proofs.Common.{subst, arith}
-use Rattle.model.specs.Channels.{Gives}
+use Rattle.std.proofs.Common.{arith}
 use Rattle.model.proofs.Counts.{added_length}
 use Rattle.deliver.proofs.story.take_all.Goals as goal
 
@@ -7,8 +6,5 @@ use Rattle.deliver.proofs.story.take_all.Goals as goal
 pub loop-message-smaller : goal.loop-message-smaller
 loop-message-smaller g c =
     let waiting = g.C.Channel.waiting in
-    let before = c.loop-message.channel in
-    let after = c.take.new.self in
-    let m = c.in-Some.message in
-    let gave = subst (λ given. Gives waiting g.C.Channel.capacity before c.args.node given after) c.in-Some.is c.in_ok-message.ensures.1 in
-    omega (arith, added_length m (waiting after) (waiting before) gave.removed)
+    let gave = rw c.in-Some.is at c.in_ok-message.ensures.1 in
+    omega (arith, added_length c.in-Some.message (waiting c.take.new.self) (waiting c.loop-message.channel) gave.removed)

@@ -1,29 +1,18 @@
-use Rattle.std.proofs.Common.{◌<◌, ◌≤◌, ◌++◌, length, sym, ap, ◌∙◌, subst, subst₂, rules}
-use mathlib.Core.Path.{fun_ext}
-use Rattle.model.specs.Tables.{put}
-use Rattle.model.specs.Cells.{is_free, is_grey}
-use Rattle.last_heap.specs.Stacks.{rising, Stacked}
-use Rattle.last_heap.specs.Last.{last_cells, frees, greys}
+use Rattle.cell_set.specs.Sets.{has}
 use Rattle.last_heap.proofs.Stacked.{freed_room, reclaims_free, reclaims_grey}
 use Rattle.last_heap.proofs.heap.cells.LastHeapHeap.reclaim.Goals as goal
 
 pub push_each-requires : goal.push_each-requires
 push_each-requires c =
-    let heap = c.args.self.now in
-    let n = c.args.node in
-    let near : n < 16 = search rules in
-    record {
-      near = near;
-      room = subst (λ p. length (frees heap n ++ rising 64 p) ≤ 64) (sym (fun_ext c.in_ok-white.ensures.1)) (freed_room (last_cells heap) n (frees heap) near heap.unused);
-    }
+    let node = c.in_ok-node.node in
+    freed_room c.args.self.now.unused node.number (has c.in_ok-white.white) c.in_ok-white.ensures.1 node.near
 
 pub invariant_of-self-2 : goal.invariant_of-self-2
 invariant_of-self-2 c =
     let heap = c.args.self.now in
-    let n = c.args.node in
-    let near : n < 16 = search rules in
-    let cells = sym c.in_ok-counts.ensures.1.cells in
-    let free = sym (c.push_each.ensures ∙ ap (λ p. put (frees heap) n (frees heap n ++ rising 64 p)) (fun_ext c.in_ok-white.ensures.1)) in record {
-      unused = subst₂ (Stacked is_free) cells free (reclaims_free (last_cells heap) n (frees heap) near heap.unused);
-      reached = subst₂ (Stacked is_grey) cells (sym c.clear.ensures) (reclaims_grey (last_cells heap) n (greys heap) near heap.reached);
+    let n = c.in_ok-node.node.number in
+    let cells = c.in_ok-counts.ensures.1.cells in
+    record {
+      unused = reclaims_free heap.unused n (has c.in_ok-white.white) c.in_ok-white.ensures.1 cells c.push_each.ensures;
+      reached = reclaims_grey heap.reached n cells c.clear.ensures;
     }

@@ -1,7 +1,0 @@
-// What came of a call.
-#[derive(Clone, Copy)]
-pub enum Outcome {
-    Granted,
-    Made(u8),
-    Refused(u8),
-}

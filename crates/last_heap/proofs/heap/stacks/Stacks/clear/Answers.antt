@@ -1,6 +1,0 @@
-use Rattle.std.proofs.Common.{[], rules}
-use Rattle.last_heap.proofs.Replaced.{replaced}
-use Rattle.last_heap.proofs.heap.stacks.Stacks.clear.Goals as goal
-
-pub returns : goal.returns
-returns c = replaced c.args.self.now c.args.node (search rules) c.clear.new.self [] c.clear.ensures

@@ -1,0 +1,6 @@
+// What a reclaim comes to: how many cells it freed, and how many it kept.
+#[derive(Clone, Copy)]
+pub struct Tally {
+    pub freed: u8,
+    pub kept: u8,
+}
