@@ -1,12 +1,14 @@
 -- The cells of one node, as its row holds them, and what a call on them is asked.
 -- A look past the end of an array gives empty slots.
-use Rattle.std.specs.Prelude.{ℕ, Bool, cond, ◌&&◌, List, [], ◌∷◌, None, Option, nat_lt, slice_index_or}
-use Rattle.model.specs.Refusals.{Questions}
+use Rattle.std.specs.Prelude.{◌≡◌, ℕ, Bool, cond, ◌&&◌, List, [], ◌∷◌, None, Option, Result, nat_lt, slice_index_or}
+use Rattle.model.specs.Refusals.{Questions, Answers}
+use Rattle.model.specs.Tables.{put}
 use Rattle.model.specs.Cells.{Cell, empty_slots, is_used, is_grey}
 use Rattle.model.specs.Cells.Cell.{free, used}
 use Rattle.model.specs.declared.colour.Colour.{Colour}
 use Rattle.model.specs.declared.colour.Colour.TheVariants.{White, Grey, Black}
 use Rattle.model.specs.declared.reference.Reference.{Reference}
+use Rattle.model.specs.declared.refusal.Refusal.{Refusal}
 use Rattle.model.specs.declared.refusal.Refusal.TheVariants.{NoSuchSlot, NotInUse, NotGrey}
 use Rattle.cell_set.specs.Sets.{has}
 use Rattle.table.specs.declared.row.Row.{Row}
@@ -44,3 +46,7 @@ row_slot_asks cells c i = (NoSuchSlot, nat_lt i 4) ∷ use_asks cells c
 
 abbrev pub grey_asks : (ℕ → Cell) → ℕ → Questions
 grey_asks cells c = (NotInUse, in_use_here cells c) ∷ (NotGrey, is_grey (cells c)) ∷ []
+
+-- what a call means that is asked this and changes cell c by f
+abbrev pub Changes : Questions → (Cell → Cell) → Row → ℕ → Result Unit Refusal → Row → Type 0
+Changes questions f before c r after = Answers questions r (after ≡ before) (λ _. row_cells after ≡ put (row_cells before) c (f (row_cells before c)))

@@ -1,10 +1,9 @@
 // The calls that change a row.
 ghost use Rattle.std.specs.Prelude.{◌≡◌, ℕ, if◌then◌else◌, nat_lt};
 ghost use Rattle.model.specs.Tables.{put, one, total};
-ghost use Rattle.model.specs.Refusals.{Answers};
 ghost use Rattle.model.specs.Cells.{empty_slots, is_used, is_white, written, shaded, blackened, reclaimed};
 ghost use Rattle.model.specs.Cells.Cell.{free, used};
-ghost use Rattle.table.specs.Rows.{row_cells, use_asks, row_slot_asks, grey_asks};
+ghost use Rattle.table.specs.Rows.{row_cells, use_asks, row_slot_asks, grey_asks, Changes};
 
 use super::Row;
 use crate::slots::Slots;
@@ -33,7 +32,7 @@ impl Row {
         slot: u8,
         what: Option<Reference>,
     ) -> Result<(), Refusal>
-        ensures { Answers (row_slot_asks (row_cells self.old) cell slot) result (self.new ≡ self.old) (λ _. row_cells self.new ≡ put (row_cells self.old) cell (written slot what (row_cells self.old cell))) }
+        ensures { Changes (row_slot_asks (row_cells self.old) cell slot) (written slot what) self.old cell result self.new }
     {
         ask(slot < 4, Refusal::NoSuchSlot)?;
         self.ask_in_use(cell)?;
@@ -44,7 +43,7 @@ impl Row {
     // Turns a white cell grey, and leaves any other: a black cell is black, whether it is among the grey ones or not.
     #[tactic(auto, using(crate::proofs::Cells::shades))]
     pub(crate) fn shade(&mut self, cell: u8) -> Result<(), Refusal>
-        ensures { Answers (use_asks (row_cells self.old) cell) result (self.new ≡ self.old) (λ _. row_cells self.new ≡ put (row_cells self.old) cell (shaded (row_cells self.old cell))) }
+        ensures { Changes (use_asks (row_cells self.old) cell) shaded self.old cell result self.new }
     {
         self.ask_in_use(cell)?;
         self.grey.insert(cell);
@@ -54,7 +53,7 @@ impl Row {
     // Turns a grey cell black.
     #[tactic(auto, using(crate::proofs::Cells::blackens))]
     pub(crate) fn blacken(&mut self, cell: u8) -> Result<(), Refusal>
-        ensures { Answers (grey_asks (row_cells self.old) cell) result (self.new ≡ self.old) (λ _. row_cells self.new ≡ put (row_cells self.old) cell (blackened (row_cells self.old cell))) }
+        ensures { Changes (grey_asks (row_cells self.old) cell) blackened self.old cell result self.new }
     {
         self.ask_in_use(cell)?;
         ask(self.grey().has(cell), Refusal::NotGrey)?;
