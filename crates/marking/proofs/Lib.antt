@@ -3,6 +3,5 @@ mod Darkening
 mod Shading
 mod Holding
 mod Reading
-mod Scanning
 mod Marking
 mod Listing
