@@ -1,4 +1,3 @@
-mod Colours
 mod Darkening
 mod Shading
 mod Holding

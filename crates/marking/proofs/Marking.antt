@@ -1,10 +1,9 @@
 -- Marking under way: what it keeps from scan to scan, and what that says once no cell is grey.
 -- A scan leaves fewer cells that are not black.
-use Rattle.std.proofs.Common.{◌≡◌, ℕ, ◌<◌, true, false, not, List, Some, None, inl, inr, ⊎_elim, arith}
+use Rattle.std.proofs.Common.{◌≡◌, ℕ, ◌<◌, true, false, not, List, Some, None, sym, inl, inr, ⊎_elim, arith}
 use Rattle.model.specs.Tables.{one, total}
 use Rattle.model.specs.Cells.{Cells, is_black}
 use Rattle.model.specs.Heaps.{GreyCell}
-use Rattle.model.specs.References.{Names}
 use Rattle.model.specs.declared.reference.Reference.{Reference}
 use Rattle.marking.specs.Reached.{Held, Named, Around, Reached}
 use Rattle.marking.specs.Reached.Reached.{held, grey, slot}
@@ -13,8 +12,7 @@ use Rattle.marking.specs.Shaded.{Shaded, Scanned, Unused}
 use Rattle.cell_list.specs.Lists.{Once}
 use Rattle.marking.specs.Marked.{has_turned, Marked}
 use Rattle.model.proofs.Totals.{total_lt}
-use Rattle.marking.proofs.Colours.{grey_is_dark, dark_not_grey}
-use Rattle.marking.proofs.Darkening.{darkened_weaker, darkened_more, unused_weaker, unused_before, named_before, named_after}
+use Rattle.marking.proofs.Darkening.{named_same}
 
 -- the roots are dark, and so is what the slots of a cell that has turned black name
 pub record Marking (n : ℕ) (roots : List Reference) (before after : Cells) : Type 0 where
@@ -26,13 +24,10 @@ pub record Marking (n : ℕ) (roots : List Reference) (before after : Cells) : T
 abbrev pub left_count : ℕ → Cells → ℕ
 left_count n cells = total 64 (λ c. one (not (is_black (cells n c))))
 
-named_low : (n c : ℕ) (x : Reference) → Names n c x → c < 64
-named_low n c x names = grind arith
-
 reached_low : (n : ℕ) (roots : List Reference) (cells : Cells) (c : ℕ) → Reached cells n roots c → c < 64
-reached_low n roots cells c (held h) = named_low n c h.reference h.names
+reached_low n roots cells c (held h) = omega arith
 reached_low n roots cells c (grey low is) = low
-reached_low n roots cells c (slot r unread name) = named_low n c name.reference name.names
+reached_low n roots cells c (slot r unread name) = omega arith
 
 -- cell b was found grey, and the step that follows is a scan of it
 module _ (n : ℕ) (middle : Cells) (b : ℕ) (next : GreyCell middle n (Some b)) where
@@ -48,18 +43,18 @@ module _ (n : ℕ) (middle : Cells) (b : ℕ) (next : GreyCell middle n (Some b)
     reached = ⊎_elim (λ same. grey next.0 (rw same at next.1)) (λ r. r) (marking.darkened.only b)
 
     through : (c : ℕ) → Named middle n b c → Reached before n roots c
-    through c name = slot reached unread (named_before (Reached before n roots) n before middle marking.darkened b c name)
+    through c name = slot reached unread (named_same n b c middle before (sym (marking.darkened.slots b)) name)
 
     around : (c : ℕ) → Around middle n b c → Reached before n roots c
     around c (inl e) = rw e reached
     around c (inr name) = through c name
 
     pub marking_stops : Unused (Named middle n b) n middle → Unused (Reached before n roots) n before
-    marking_stops unused = unused_before (Reached before n roots) n before middle marking.darkened (unused_weaker (Named middle n b) (Reached before n roots) n middle through unused)
+    marking_stops unused = grind (arith, through)
 
     module _ (after : Cells) (step : Darkened (Around middle n b) n middle after) where
       pub marking_darkens : Darkened (Reached before n roots) n before after
-      marking_darkens = darkened_more (Reached before n roots) n before middle after marking.darkened (darkened_weaker (Around middle n b) (Reached before n roots) n middle after around step)
+      marking_darkens = grind (arith, around)
 
       pub marking_more : Scanned n b middle after → Marking n roots before after
       marking_more scanned = record {
@@ -67,17 +62,17 @@ module _ (n : ℕ) (middle : Cells) (b : ℕ) (next : GreyCell middle n (Some b)
         roots_dark = λ c h. step.dark c (marking.roots_dark c h);
         slots_dark = λ k c now was name. ⊎_elim
             (λ e. step.dark c (marking.slots_dark k c e was name))
-            (λ e. scanned.dark c (named_after (Reached before n roots) n before middle marking.darkened b c (rw e at name)))
+            (λ e. scanned.dark c (named_same n b c before middle (marking.darkened.slots b) (rw e at name)))
             (scanned.black k now);
       }
 
 module _ (n : ℕ) (roots : List Reference) (before after : Cells) where
   -- what is held is reached
   pub held_unused : Unused (Held n roots) n before → Unused (Reached before n roots) n before
-  held_unused = unused_weaker (Held n roots) (Reached before n roots) n before (λ c h. held h)
+  held_unused unused = grind (arith, held)
 
   pub held_darkened : Darkened (Held n roots) n before after → Darkened (Reached before n roots) n before after
-  held_darkened = darkened_weaker (Held n roots) (Reached before n roots) n before after (λ c h. held h)
+  held_darkened darkened = grind (arith, held)
 
   pub marking_begins : Darkened (Held n roots) n before after → Shaded (Held n roots) n before after → Marking n roots before after
   marking_begins darkened shaded = record {
@@ -89,12 +84,12 @@ module _ (n : ℕ) (roots : List Reference) (before after : Cells) where
   -- no cell is grey
   module _ (marking : Marking n roots before after) (none : GreyCell after n None) where
     turned : (c : ℕ) → c < 64 → is_dark (after n c) ≡ true → is_black (after n c) ≡ true
-    turned c low dark = dark_not_grey (after n c) dark (none c low)
+    turned c low dark = grind (arith, none c low)
 
     black : (c : ℕ) → Reached before n roots c → is_black (after n c) ≡ true
-    black c (held h) = turned c (named_low n c h.reference h.names) (marking.roots_dark c h)
-    black c (grey low is) = turned c low (marking.darkened.dark c (grey_is_dark (before n c) is))
-    black c (slot {b} r unread name) = turned c (named_low n c name.reference name.names) (marking.slots_dark b c (black b r) unread name)
+    black c (held h) = turned c (omega arith) (marking.roots_dark c h)
+    black c (grey low is) = turned c low (marking.darkened.dark c (grind arith))
+    black c (slot {b} r unread name) = turned c (omega arith) (marking.slots_dark b c (black b r) unread name)
 
     pub marking_ends : (scanned : List ℕ) → Once (has_turned n before after) scanned → n < 16 → Marked n roots before after scanned
     marking_ends scanned once near = record {
