@@ -8,15 +8,12 @@ use Rattle.model.specs.Heaps.{GreyCell}
 use Rattle.cell_list.specs.Lists.{Once}
 use Rattle.cell_list.proofs.Counted.{once_same, once_push, room}
 use Rattle.marking.specs.Darkened.{Darkened}
-use Rattle.marking.specs.Shaded.{Shaded, Scanned}
+use Rattle.marking.specs.Shaded.{Scanned}
 use Rattle.marking.specs.Marked.{has_turned}
 
 pub record Listing (n : ℕ) (before after : Cells) (scanned : List ℕ) : Type 0 where
   pub black : (c : ℕ) → is_black (before n c) ≡ true → is_black (after n c) ≡ true
   pub once : Once (has_turned n before after) scanned
-
-pub listing_begins : {P Q : ℕ → Type 0} (n : ℕ) (before after : Cells) → Darkened P n before after → Shaded Q n before after → Listing n before after []
-listing_begins n before after darkened shaded = grind arith
 
 -- cell b was found grey
 module _ (n : ℕ) (before middle : Cells) (scanned : List ℕ) (listing : Listing n before middle scanned) (b : ℕ) (next : GreyCell middle n (Some b)) where

@@ -8,7 +8,7 @@ use Rattle.model.specs.declared.reference.Reference.{Reference}
 use Rattle.marking.specs.Reached.{Held, Named, Around, Reached}
 use Rattle.marking.specs.Reached.Reached.{held, grey, slot}
 use Rattle.marking.specs.Darkened.{is_dark, Darkened}
-use Rattle.marking.specs.Shaded.{Shaded, Scanned, Unused}
+use Rattle.marking.specs.Shaded.{Scanned, Unused}
 use Rattle.cell_list.specs.Lists.{Once}
 use Rattle.marking.specs.Marked.{has_turned, Marked}
 use Rattle.model.proofs.Totals.{total_lt}
@@ -73,13 +73,6 @@ module _ (n : ℕ) (roots : List Reference) (before after : Cells) where
 
   pub held_darkened : Darkened (Held n roots) n before after → Darkened (Reached before n roots) n before after
   held_darkened darkened = grind (arith, held)
-
-  pub marking_begins : Darkened (Held n roots) n before after → Shaded (Held n roots) n before after → Marking n roots before after
-  marking_begins darkened shaded = record {
-    darkened = held_darkened darkened;
-    roots_dark = shaded.dark;
-    slots_dark = λ b c now was name. grind (arith, shaded.black b now);
-  }
 
   -- no cell is grey
   module _ (marking : Marking n roots before after) (none : GreyCell after n None) where

@@ -68,7 +68,7 @@ fn scan<H: Heap>(heap: &mut H, node: u8, cell: u8) -> Result<(), Refusal>
 }
 
 // Marks the cells of one node from what is held, and answers the cells that it scanned, in order.
-#[tactic(auto, using(crate::proofs::Marking::held_darkened, crate::proofs::Marking::held_unused))]
+#[tactic(auto, using(crate::proofs::Marking::held_darkened, crate::proofs::Marking::held_unused, crate::proofs::Marking::marking_darkens, crate::proofs::Marking::fewer_left))]
 pub fn mark<H: Heap>(heap: &mut H, node: u8, roots: &[Reference]) -> Result<CellList, Refusal>
     ensures darkens { Darkened (Reached (H.cells heap.old) node roots.now) node (H.cells heap.old) (H.cells heap.new) }
     ensures marks { Marks node roots.now (H.cells heap.old) result (H.cells heap.new) (heap.new ≡ heap.old) }

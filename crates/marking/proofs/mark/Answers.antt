@@ -1,17 +1,8 @@
 use Rattle.std.proofs.Common.{rules, arith}
 use Rattle.cell_list.proofs.Counted.{pushed}
-use Rattle.marking.proofs.Marking.{marking_begins, marking_more, marking_darkens, marking_stops, marking_ends, fewer_left}
-use Rattle.marking.proofs.Listing.{listing_begins, listing_room, listing_more}
+use Rattle.marking.proofs.Marking.{marking_more, marking_stops, marking_ends}
+use Rattle.marking.proofs.Listing.{listing_room, listing_more}
 use Rattle.marking.proofs.mark.Goals as goal
-
-pub loop-cell-init : goal.loop-cell-init
-loop-cell-init g c = record {
-  marking = marking_begins _ _ _ _ c.shade_roots.ensures.darkens c.in_ok-shade_roots.ensures.shades;
-  listing = rw c.new-scanned.ensures (listing_begins _ _ _ c.shade_roots.ensures.darkens c.in_ok-shade_roots.ensures.shades);
-}
-
-pub loop-cell-smaller : goal.loop-cell-smaller
-loop-cell-smaller g c = fewer_left _ _ _ (rw c.in-Some.is at c.in_ok-cell.ensures.1) _ c.scan.ensures.darkens c.in_ok-scan.ensures.scans
 
 pub loop-cell-preserved : goal.loop-cell-preserved
 loop-cell-preserved g c =
@@ -22,9 +13,6 @@ loop-cell-preserved g c =
       listing = rw (pushed _ _ _ _ (listing_room _ _ _ _ so_far.listing _ next) c.push.ensures)
           (listing_more _ _ _ _ so_far.listing _ next _ c.scan.ensures.darkens c.in_ok-scan.ensures.scans);
     }
-
-pub returns-in_err-scan-clause-darkens : goal.returns-in_err-scan-clause-darkens
-returns-in_err-scan-clause-darkens g c = marking_darkens _ _ _ (rw c.in-Some.is at c.in_ok-cell.ensures.1) _ _ c.loop-cell.invariant.marking _ c.scan.ensures.darkens
 
 pub returns-in_err-scan-clause-marks : goal.returns-in_err-scan-clause-marks
 returns-in_err-scan-clause-marks g c =
