@@ -7,7 +7,7 @@ use Rattle.model.specs.Tables.{first, is_some}
 pub first_same : (n : ℕ) (p q : ℕ → Bool) → ((c : ℕ) → c < n → p c ≡ q c) → first n p ≡ first n q
 unfolding first
 first_same zero p q same = refl
-first_same (suc n) p q same = grind (arith, first_same n p q (λ c h. same c (omega arith)), same n)
+first_same (suc n) p q same = grind (arith, first_same n p q, same)
 
 -- what the lowest number that passes says of those below n
 abbrev pub Found : ℕ → (ℕ → Bool) → Option ℕ → Type 0

@@ -1,12 +1,12 @@
 -- Sums of the values of a function below a number.
 -- Two sums are compared by their values, place by place.
-use Rattle.std.proofs.Common.{◌≡◌, ℕ, zero, suc, ◌+◌, ◌*◌, ◌<◌, ◌≤◌, refl, subst, ap₂, suc-mul, arith}
+use Rattle.std.proofs.Common.{◌≡◌, ℕ, zero, suc, ◌+◌, ◌*◌, ◌<◌, ◌≤◌, refl, suc-mul, arith}
 use Rattle.model.specs.Tables.{total}
 
 pub total_same : (n : ℕ) (f g : ℕ → ℕ) → ((k : ℕ) → k < n → f k ≡ g k) → total n f ≡ total n g
 unfolding total
 total_same zero f g h = refl
-total_same (suc n) f g h = ap₂ ◌+◌ (total_same n f g (λ k l. h k (omega arith))) (h n (omega arith))
+total_same (suc n) f g h = grind (arith, total_same n f g, h)
 
 -- every value is m
 pub total_all : (n m : ℕ) → total n (λ k. m) ≡ n * m
@@ -17,10 +17,10 @@ total_all (suc n) m = omega (arith, total_all n m, suc-mul n m)
 pub total_le : (n : ℕ) (f g : ℕ → ℕ) → ((k : ℕ) → k < n → f k ≤ g k) → total n f ≤ total n g
 unfolding total
 total_le zero f g h = omega arith
-total_le (suc n) f g h = omega (arith, total_le n f g (λ k l. h k (omega arith)), h n (omega arith))
+total_le (suc n) f g h = grind (arith, total_le n f g, h)
 
 pub total_bound : (n m : ℕ) (f : ℕ → ℕ) → ((k : ℕ) → k < n → f k ≤ m) → total n f ≤ n * m
-total_bound n m f h = subst (λ bound. total n f ≤ bound) (total_all n m) (total_le n f (λ k. m) h)
+total_bound n m f h = omega (arith, total_all n m, total_le n f (λ k. m) h)
 
 -- the values differ at i alone
 pub total_change : (n : ℕ) (f g : ℕ → ℕ) (i : ℕ) → i < n → ((k : ℕ) → (k ≡ i → ⊥) → g k ≡ f k) → total n g + f i ≡ total n f + g i
