@@ -1,7 +1,6 @@
 -- Going through the roots one after another: what the first i of them name is dark by now.
 -- One more root adds what it names.
-use Rattle.std.proofs.Common.{◌≡◌, ℕ, ◌+◌, ◌<◌, ◌⊎◌, List, length, get_or, take, sym, ◌∙◌, subst, inl, inr, ⊎_elim}
-use Rattle.std.specs.List.{ContainsAt as Has}
+use Rattle.std.proofs.Common.{◌≡◌, ℕ, ◌+◌, ◌<◌, ◌⊎◌, List, length, get_or, take, ◌∙◌, inl, inr, ⊎_elim}
 use Rattle.std.proofs.lemmas.List.{take_more}
 use Rattle.std.proofs.ByRecursion.{has_get_or, has_push_cases}
 use Rattle.model.specs.Cells.{Cells}
@@ -17,12 +16,12 @@ Holding n roots i before after = Shading (Held n roots) (Held n (take i roots)) 
 
 module _ (n : ℕ) (roots : List Reference) (before : Cells) (i : ℕ) (middle : Cells) (so_far : Holding n roots i before middle) (low : i < length roots) (x : Reference) (read : x ≡ get_or roots i x) where
   among : (c : ℕ) → Names n c x → Held n roots c
-  among c names = record { reference = x; stands = subst (Has roots) (sym read) (has_get_or roots i x low); names = names }
+  among c names = record { reference = x; stands = rw read (has_get_or roots i x low); names = names }
 
   before_or_at : (c : ℕ) → Held n (take (i + 1) roots) c → Held n (take i roots) c ⊎ Names n c x
   before_or_at c held = ⊎_elim
       (λ has. inl (record { reference = held.reference; stands = has; names = held.names }))
-      (λ e. inr (subst (Names n c) (sym (read ∙ e)) held.names))
+      (λ e. let same : x ≡ held.reference = read ∙ e in inr (rw same held.names))
       (has_push_cases (take i roots) (get_or roots i x) held.reference (rw (take_more roots i x low) at held.stands))
 
   pub holding_more : (after : Cells) → Darkened (λ c. Names n c x) n middle after → Shaded (λ c. Names n c x) n middle after → Holding n roots (i + 1) before after

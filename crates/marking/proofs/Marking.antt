@@ -66,31 +66,30 @@ module _ (n : ℕ) (middle : Cells) (b : ℕ) (next : GreyCell middle n (Some b)
             (scanned.black k now);
       }
 
-module _ (n : ℕ) (roots : List Reference) (before after : Cells) where
-  -- what is held is reached
-  pub held_unused : Unused (Held n roots) n before → Unused (Reached before n roots) n before
-  held_unused unused = grind (arith, held)
+-- what is held is reached
+pub held_unused : (n : ℕ) (roots : List Reference) (cells : Cells) → Unused (Held n roots) n cells → Unused (Reached cells n roots) n cells
+held_unused n roots cells unused = grind (arith, held)
 
-  pub held_darkened : Darkened (Held n roots) n before after → Darkened (Reached before n roots) n before after
-  held_darkened darkened = grind (arith, held)
+pub held_darkened : (n : ℕ) (roots : List Reference) (before after : Cells) → Darkened (Held n roots) n before after → Darkened (Reached before n roots) n before after
+held_darkened n roots before after darkened = grind (arith, held)
 
-  -- no cell is grey
-  module _ (marking : Marking n roots before after) (none : GreyCell after n None) where
-    turned : (c : ℕ) → c < 64 → is_dark (after n c) ≡ true → is_black (after n c) ≡ true
-    turned c low dark = grind (arith, none c low)
+-- no cell is grey
+module _ (n : ℕ) (roots : List Reference) (before after : Cells) (marking : Marking n roots before after) (none : GreyCell after n None) where
+  turned : (c : ℕ) → c < 64 → is_dark (after n c) ≡ true → is_black (after n c) ≡ true
+  turned c low dark = grind (arith, none c low)
 
-    black : (c : ℕ) → Reached before n roots c → is_black (after n c) ≡ true
-    black c (held h) = turned c (omega arith) (marking.roots_dark c h)
-    black c (grey low is) = turned c low (marking.darkened.dark c (grind arith))
-    black c (slot {b} r unread name) = turned c (omega arith) (marking.slots_dark b c (black b r) unread name)
+  black : (c : ℕ) → Reached before n roots c → is_black (after n c) ≡ true
+  black c (held h) = turned c (omega arith) (marking.roots_dark c h)
+  black c (grey low is) = turned c low (marking.darkened.dark c (grind arith))
+  black c (slot {b} r unread name) = turned c (omega arith) (marking.slots_dark b c (black b r) unread name)
 
-    pub marking_ends : (scanned : List ℕ) → Once (has_turned n before after) scanned → n < 16 → Marked n roots before after scanned
-    marking_ends scanned once near = record {
-      node = near;
-      reached = black;
-      only = λ c e. grind (arith, marking.darkened.only c);
-      rest = λ c e. grind (arith, marking.darkened.only c, black c);
-      none_grey = none;
-      used = λ c r. grind (arith, reached_low n roots before c r, marking.darkened.used c, black c r);
-      each = once;
-    }
+  pub marking_ends : (scanned : List ℕ) → Once (has_turned n before after) scanned → n < 16 → Marked n roots before after scanned
+  marking_ends scanned once near = record {
+    node = near;
+    reached = black;
+    only = λ c e. grind (arith, marking.darkened.only c);
+    rest = λ c e. grind (arith, marking.darkened.only c, black c);
+    none_grey = none;
+    used = λ c r. grind (arith, reached_low n roots before c r, marking.darkened.used c, black c r);
+    each = once;
+  }

@@ -1,6 +1,6 @@
 -- Reading the slots of a cell one after another: what the slots below i name is dark by now.
 -- A cell has four slots, so those below 4 are all.
-use Rattle.std.proofs.Common.{◌≡◌, ℕ, ◌+◌, ◌<◌, ◌≤◌, ◌⊎◌, length, get_or, Some, None, Option, sym, ap, ◌∙◌, inl, inr, ⊎_elim, arith}
+use Rattle.std.proofs.Common.{◌≡◌, ℕ, ◌+◌, ◌<◌, ◌≤◌, ◌⊎◌, length, get_or, Some, None, Option, inl, inr, ⊎_elim, arith}
 use Rattle.std.proofs.lemmas.List.{get_or_past}
 use Rattle.std.proofs.lemmas.Bool.{cases_eq}
 use Rattle.model.specs.Cells.{Cells, slots_of}
@@ -36,10 +36,7 @@ module _ (n b : ℕ) (before : Cells) (i : ℕ) (middle : Cells) (so_far : Readi
 
     -- a slot below i + 1 is slot i or one below it
     at_or_below : (c : ℕ) → NamedBelow before n b (i + 1) c → ((x : Reference) × (what ≡ Some x) × Names n c x) ⊎ NamedBelow before n b i c
-    at_or_below c below = ⊎_elim
-        (λ e. inl (below.named.reference, sym held ∙ ap (λ k. get_or (slots_of (before n b)) k None) (sym e) ∙ below.named.holds, below.named.names))
-        (λ off. inr (record { named = below.named; low = omega (arith, below.low) }))
-        (cases_eq below.named.slot i)
+    at_or_below c below = ⊎_elim (λ e. inl (below.named.reference, (cc held), below.named.names)) (λ off. inr (record { named = below.named; low = omega arith })) (cases_eq below.named.slot i)
 
   pub reading_empty : get_or (slots_of (middle n b)) i None ≡ None → Reading n b (i + 1) before middle
   reading_empty read = shading_so (Named before n b) (NamedBelow before n b i) n before middle so_far (NamedBelow before n b (i + 1))
