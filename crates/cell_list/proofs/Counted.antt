@@ -1,8 +1,7 @@
 -- How often a number stands in a list, where others are added, dropped or taken.
 -- A list in which each number below n stands at most once is no longer than n.
-use Rattle.std.proofs.Common.{◌≡◌, ℕ, ◌+◌, ◌<◌, ◌≤◌, Bool, true, false, cond, not, ◌&&◌, eqb, ltb, List, [], ◌∷◌, ◌++◌, length, sym, refl, ap, ◌∙◌, ⊎_elim, arith}
+use Rattle.std.proofs.Common.{◌≡◌, ℕ, ◌+◌, ◌<◌, ◌≤◌, Bool, true, false, cond, not, ◌&&◌, eqb, ltb, List, [], ◌∷◌, ◌++◌, length, ◌∙◌, arith}
 use Rattle.std.proofs.lemmas.List.Sums.{sum_by-cons, sum_by_push, sum_by-append}
-use Rattle.std.proofs.lemmas.Bool.{eq-eqb, ne_eqb, le-ltb, and_left, and_right, cases_lt}
 use Rattle.std.proofs.lemmas.Bool.Decides.{nat_tests}
 use Rattle.model.specs.Tables.{one, put, total}
 use Rattle.cell_list.specs.Lists.{listed, times, Once, without, Pushed}
@@ -28,17 +27,12 @@ times_without d c [] = grind (arith, nat_tests)
 times_without d c (x ∷ xs) =
     times_first d x (eqb x c) (without c xs) ∙ grind (arith, nat_tests, times_without d c xs, times_cons d x xs)
 
-one_le : (b : Bool) → one b ≤ 1
-one_le true = omega arith
-one_le false = omega arith
-
 -- what stands last passes
 pub in_list : (c : ℕ) (xs : List ℕ) (b : Bool) → times c (xs ++ (c ∷ [])) ≡ one b → b ≡ true
-in_list c xs true e = refl
-in_list c xs false e = absurd (omega (arith, times_push c xs c, ap one (eq-eqb c c refl)))
+in_list c xs b e = grind (arith, nat_tests, times_push c xs c)
 
 pub once_same : (p q : ℕ → Bool) (xs : List ℕ) → ((c : ℕ) → p c ≡ q c) → Once p xs → Once q xs
-once_same p q xs same once c = once c ∙ ap one (same c)
+once_same p q xs same once c = cc (once c, same c)
 
 -- nothing stands in the list, so nothing passes
 pub once_none : (p : ℕ → Bool) → Once p [] → (c : ℕ) → p c ≡ false
@@ -48,7 +42,7 @@ pub once_push : (p : ℕ → Bool) (xs : List ℕ) (c : ℕ) → Once p xs → p
 once_push p xs c once new d = grind (arith, nat_tests, once d, times_push d xs c)
 
 pub once_pop : (p : ℕ → Bool) (xs : List ℕ) (c : ℕ) → Once p (xs ++ (c ∷ [])) → Once (put p c false) xs
-once_pop p xs c once d = grind (arith, nat_tests, once d, times_push d xs c, one_le (p d))
+once_pop p xs c once d = grind (arith, nat_tests, once d, times_push d xs c)
 
 pub once_without : (p : ℕ → Bool) (xs : List ℕ) (c : ℕ) → Once p xs → Once (put p c false) (without c xs)
 once_without p xs c once d = grind (arith, nat_tests, once d, times_without d c xs)
@@ -57,30 +51,25 @@ once_without p xs c once d = grind (arith, nat_tests, once d, times_without d c 
 pub length_counted : (n : ℕ) (xs : List ℕ) → ((c : ℕ) → n ≤ c → times c xs ≡ 0) → length xs ≡ total n (λ c. times c xs)
 length_counted n [] none = omega (arith, total_all n 0)
 length_counted n (x ∷ xs) none =
-    let here : times x (x ∷ xs) ≡ 1 + times x xs = times_cons x x xs ∙ ap (λ b. one b + times x xs) (eq-eqb x x refl) in
-    let below : x < n = ⊎_elim (λ l. l) (λ l. absurd (omega (arith, none x l))) (cases_lt x n) in
+    let below : x < n = grind (arith, nat_tests, none x, times_cons x x xs) in
     let rest = length_counted n xs (λ c l. omega (arith, none c l, times_cons c x xs)) in
-    let more = total_change n (λ c. times c xs) (λ c. times c (x ∷ xs)) x below
-    (λ c d. times_cons c x xs ∙ ap (λ b. one b + times c xs) (ne_eqb x c (λ e. d (sym e))) ∙ omega arith) in
-    omega arith
+    let more = total_change n (λ c. times c xs) (λ c. times c (x ∷ xs)) x below (λ c d. grind (arith, nat_tests, times_cons c x xs)) in
+    grind (arith, nat_tests, times_cons x x xs)
 
 module _ (n : ℕ) (xs : List ℕ) (p : ℕ → Bool) (once : Once (λ c. ltb c n && p c) xs) where
   counted : length xs ≡ total n (λ c. times c xs)
-  counted = length_counted n xs (λ c l. once c ∙ ap one (and_left _ _ (le-ltb c n l)))
+  counted = length_counted n xs (λ c l. grind (arith, nat_tests, once c))
 
   at_most_once : (c : ℕ) → c < n → times c xs ≤ 1
-  at_most_once c l = omega (arith, once c, one_le (ltb c n && p c))
+  at_most_once c l = grind (arith, once c)
 
   pub short : length xs ≤ n
   short = omega (arith, counted, total_bound n 1 (λ c. times c xs) at_most_once)
 
   -- some number below n does not pass, so there is room for one more
   pub room : (c : ℕ) → c < n → p c ≡ false → length xs < n
-  room c l fails =
-      let absent : times c xs ≡ 0 = once c ∙ ap one (and_right _ _ fails) in
-      omega (arith, counted, total_lt n (λ k. times k xs) (λ k. 1) c l at_most_once (omega arith), total_all n 1)
+  room c l fails = omega (arith, counted, total_lt n (λ k. times k xs) (λ k. 1) c l at_most_once (grind (arith, once c)), total_all n 1)
 
 -- where there is room, what is pushed is added
 pub pushed : (before after : CellList) (c : ℕ) (r : Bool) → length (listed before) < 64 → Pushed before c r after → listed after ≡ listed before ++ (c ∷ [])
-pushed before after c true roomy (_, more) = more
-pushed before after c false roomy (full, _) = absurd (omega arith)
+pushed before after c r roomy done = grind arith

@@ -1,7 +1,6 @@
 -- Going through the roots one after another: what the first i of them name is dark by now.
 -- One more root adds what it names.
-use Rattle.std.proofs.Common.{◌≡◌, ℕ, ◌+◌, ◌<◌, ◌⊎◌, List, [], length, get_or, take, sym, ◌∙◌, subst, inl, inr, ⊎_elim, arith}
-use Rattle.std.specs.List.{ContainsAt as Has}
+use Rattle.std.proofs.Common.{◌≡◌, ℕ, ◌+◌, ◌<◌, ◌⊎◌, List, length, get_or, take, ◌∙◌, inl, inr, ⊎_elim}
 use Rattle.std.proofs.lemmas.List.{take_more}
 use Rattle.std.proofs.ByRecursion.{has_get_or, has_push_cases}
 use Rattle.model.specs.Cells.{Cells}
@@ -10,28 +9,23 @@ use Rattle.model.specs.declared.reference.Reference.{Reference}
 use Rattle.marking.specs.Reached.{Held}
 use Rattle.marking.specs.Darkened.{Darkened}
 use Rattle.marking.specs.Shaded.{Shaded, Unused}
-use Rattle.marking.proofs.Shading.{Shading, shading_none, shading_more, shading_stops}
+use Rattle.marking.proofs.Shading.{Shading, shading_more, shading_stops}
 
 abbrev pub Holding : ℕ → List Reference → ℕ → Cells → Cells → Type 0
 Holding n roots i before after = Shading (Held n roots) (Held n (take i roots)) n before after
 
-module _ (n : ℕ) (roots : List Reference) (before : Cells) where
-  pub holding_begins : Holding n roots 0 before before
-  holding_begins = shading_none (Held n roots) (Held n []) n before (λ c held. omega (arith, held.stands.1))
+module _ (n : ℕ) (roots : List Reference) (before : Cells) (i : ℕ) (middle : Cells) (so_far : Holding n roots i before middle) (low : i < length roots) (x : Reference) (read : x ≡ get_or roots i x) where
+  among : (c : ℕ) → Names n c x → Held n roots c
+  among c names = record { reference = x; stands = rw read (has_get_or roots i x low); names = names }
 
-  module _ (i : ℕ) (middle : Cells) (so_far : Holding n roots i before middle) (low : i < length roots) (x : Reference) (read : x ≡ get_or roots i x) where
-    among : (c : ℕ) → Names n c x → Held n roots c
-    among c names = record { reference = x; stands = subst (Has roots) (sym read) (has_get_or roots i x low); names = names }
+  before_or_at : (c : ℕ) → Held n (take (i + 1) roots) c → Held n (take i roots) c ⊎ Names n c x
+  before_or_at c held = ⊎_elim
+      (λ has. inl (record { reference = held.reference; stands = has; names = held.names }))
+      (λ e. let same : x ≡ held.reference = read ∙ e in inr (rw same held.names))
+      (has_push_cases (take i roots) (get_or roots i x) held.reference (rw (take_more roots i x low) at held.stands))
 
-    before_or_at : (c : ℕ) → Held n (take (i + 1) roots) c → Held n (take i roots) c ⊎ Names n c x
-    before_or_at c held = ⊎_elim
-        (λ has. inl (record { reference = held.reference; stands = has; names = held.names }))
-        (λ e. inr (subst (Names n c) (sym (read ∙ e)) held.names))
-        (has_push_cases (take i roots) (get_or roots i x) held.reference (subst (λ l. Has l held.reference) (take_more roots i x low) held.stands))
+  pub holding_more : (after : Cells) → Darkened (λ c. Names n c x) n middle after → Shaded (λ c. Names n c x) n middle after → Holding n roots (i + 1) before after
+  holding_more = shading_more (Held n roots) (Held n (take i roots)) n before middle so_far (λ c. Names n c x) among (Held n (take (i + 1) roots)) before_or_at
 
-    module _ (after : Cells) (step : Darkened (λ c. Names n c x) n middle after) where
-      pub holding_more : Shaded (λ c. Names n c x) n middle after → Holding n roots (i + 1) before after
-      holding_more = shading_more (Held n roots) (Held n (take i roots)) n before middle so_far (λ c. Names n c x) among after step (Held n (take (i + 1) roots)) before_or_at
-
-      pub holding_stops : Unused (λ c. Names n c x) n middle → Darkened (Held n roots) n before after × Unused (Held n roots) n before
-      holding_stops = shading_stops (Held n roots) (Held n (take i roots)) n before middle so_far (λ c. Names n c x) among after step
+  pub holding_stops : Unused (λ c. Names n c x) n middle → Unused (Held n roots) n before
+  holding_stops = shading_stops (Held n roots) (Held n (take i roots)) n before middle so_far (λ c. Names n c x) among

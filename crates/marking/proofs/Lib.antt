@@ -1,8 +1,6 @@
-mod Colours
 mod Darkening
 mod Shading
 mod Holding
 mod Reading
-mod Scanning
 mod Marking
 mod Listing

@@ -27,6 +27,7 @@ fn shade_own<H: Heap>(heap: &mut H, node: u8, reference: Reference) -> Result<()
 }
 
 // Shades what is held.
+#[tactic(auto, using(crate::proofs::Holding::holding_stops))]
 fn shade_roots<H: Heap>(heap: &mut H, node: u8, roots: &[Reference]) -> Result<(), Refusal>
     ensures darkens { Darkened (Held node roots.now) node (H.cells heap.old) (H.cells heap.new) }
     ensures shades { Shades (Held node roots.now) node (H.cells heap.old) result (H.cells heap.new) }
@@ -53,6 +54,7 @@ fn shade_slots<H: Heap>(heap: &mut H, node: u8, cell: u8) -> Result<(), Refusal>
 }
 
 // Scans a grey cell: what its slots name is shaded, and then it turns black.
+#[tactic(auto, using(std::proofs::lemmas::Bool::Decides::nat_tests, crate::proofs::Darkening::darkened_around))]
 fn scan<H: Heap>(heap: &mut H, node: u8, cell: u8) -> Result<(), Refusal>
     requires node { node < 16 }
     requires cell { cell < 64 }
@@ -66,6 +68,7 @@ fn scan<H: Heap>(heap: &mut H, node: u8, cell: u8) -> Result<(), Refusal>
 }
 
 // Marks the cells of one node from what is held, and answers the cells that it scanned, in order.
+#[tactic(auto, using(crate::proofs::Marking::held_darkened, crate::proofs::Marking::held_unused, crate::proofs::Marking::marking_darkens, crate::proofs::Marking::fewer_left))]
 pub fn mark<H: Heap>(heap: &mut H, node: u8, roots: &[Reference]) -> Result<CellList, Refusal>
     ensures darkens { Darkened (Reached (H.cells heap.old) node roots.now) node (H.cells heap.old) (H.cells heap.new) }
     ensures marks { Marks node roots.now (H.cells heap.old) result (H.cells heap.new) (heap.new ≡ heap.old) }

@@ -1,9 +1,8 @@
 -- What a test of a cell says of it.
-use Rattle.std.proofs.Common.{◌≡◌, true, refl}
-use Rattle.std.proofs.lemmas.Bool.{false≢true}
+-- Only one cell is free: a cell in use has a colour.
+use Rattle.std.proofs.Common.{◌≡◌, true, arith}
 use Rattle.model.specs.Cells.{Cell, is_free}
-use Rattle.model.specs.Cells.Cell.{free, used}
+use Rattle.model.specs.Cells.Cell.{free}
 
 pub from_free : (x : Cell) → is_free x ≡ true → x ≡ free
-from_free free e = refl
-from_free (used colour slots) e = absurd (false≢true e)
+from_free x e = grind arith

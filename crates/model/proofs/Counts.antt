@@ -1,5 +1,5 @@
 -- Messages are counted: lists with equal counts have equal sums of any measure.
-use Rattle.std.proofs.Common.{◌≡◌, ℕ, ◌+◌, ◌<◌, Bool, true, false, List, [], ◌∷◌, ◌++◌, length, sym, refl, ap, ◌∙◌, arith}
+use Rattle.std.proofs.Common.{◌≡◌, ℕ, ◌+◌, ◌<◌, Bool, true, false, List, [], ◌∷◌, ◌++◌, length, sym, refl, ap, arith}
 use Rattle.model.specs.Tables.{one}
 use Rattle.model.specs.Messages.{same, sum, times, Added}
 use Rattle.model.specs.declared.message.Message.{Message}
@@ -45,5 +45,4 @@ pub added_sum : (f : Message → ℕ) (m : Message) (before after : List Message
 added_sum f m before after added = equal_counts f after (m ∷ before) added
 
 pub added_length : (m : Message) (before after : List Message) → Added m before after → length after ≡ 1 + length before
-added_length m before after added =
-    length_sum after ∙ added_sum (λ x. 1) m before after added ∙ ap (λ n. 1 + n) (sym (length_sum before))
+added_length m before after added = omega (arith, length_sum before, length_sum after, added_sum (λ x. 1) m before after added)

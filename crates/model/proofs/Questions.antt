@@ -1,5 +1,6 @@
--- Where every question is answered yes, nothing is refused.
-use Rattle.std.proofs.Common.{◌≡◌, true, cond, [], ◌∷◌, Some, sym, ap, ◌∙◌}
+-- Questions of which each is answered yes.
+-- Nothing is refused then.
+use Rattle.std.proofs.Common.{◌≡◌, true, [], ◌∷◌, Some}
 use Rattle.model.specs.Refusals.{Questions, first_no}
 use Rattle.model.specs.declared.refusal.Refusal.{Refusal}
 
@@ -10,4 +11,4 @@ AllYes (q ∷ more) = (q.1 ≡ true) × AllYes more
 
 pub no_refusal : (questions : Questions) (why : Refusal) → AllYes questions → first_no questions ≡ Some why → ⊥
 no_refusal [] why each e = cc
-no_refusal (q ∷ more) why each e = no_refusal more why each.1 (sym (ap (λ b. cond b (first_no more) (Some q.0)) each.0) ∙ e)
+no_refusal (q ∷ more) why each e = no_refusal more why each.1 (rw each.0 at e)

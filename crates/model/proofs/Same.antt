@@ -1,9 +1,10 @@
 -- References and messages that agree in their numbers are the same.
-use Rattle.std.proofs.Common.{◌≡◌, ℕ, ◌%◌, ◌<◌, true, cond, ◌&&◌, eqb, List, [], ◌∷◌, get_or, drop, sym, refl, ap, ◌∙◌, mod-lt, mod-eq_of_lt, arith}
+-- A kind, and so a message, can be had back from what it carries.
+use Rattle.std.proofs.Common.{◌≡◌, ℕ, ◌%◌, ◌<◌, true, cond, eqb, List, [], ◌∷◌, get_or, drop, sym, refl, ap, ◌∙◌, mod-lt, mod-eq_of_lt, arith}
 use mathlib.Core.Bool.{Bool-set}
 use mathlib.Core.HLevel.{is_prop→PathP}
 use native.Mathlib.Bridge.{le_prop}
-use Rattle.std.proofs.lemmas.Bool.{eqb-true, eq-eqb, and_parts, false≢true}
+use Rattle.std.proofs.lemmas.Bool.Decides.{nat_tests}
 use Rattle.model.specs.Kinds.{kind_number, fits}
 use Rattle.model.specs.Messages.{carried, numbers, equal, same}
 use Rattle.model.specs.declared.reference.Reference.{Reference}
@@ -55,17 +56,13 @@ kind_back (Swept freed kept) = refl
 
 equal_true : (xs ys : List ℕ) → equal xs ys ≡ true → xs ≡ ys
 equal_true [] [] e = refl
-equal_true [] (y ∷ ys) e = absurd (false≢true e)
-equal_true (x ∷ xs) [] e = absurd (false≢true e)
-equal_true (x ∷ xs) (y ∷ ys) e =
-    let both = and_parts (eqb x y) (equal xs ys) e in
-    let first : x ≡ y = eqb-true x y both.0 in
-    let rest : xs ≡ ys = equal_true xs ys both.1 in
-    cc
+equal_true [] (y ∷ ys) e = cc
+equal_true (x ∷ xs) [] e = cc
+equal_true (x ∷ xs) (y ∷ ys) e = grind (arith, nat_tests, equal_true xs ys)
 
 equal_self : (xs : List ℕ) → equal xs xs ≡ true
 equal_self [] = refl
-equal_self (x ∷ xs) = ap (λ b. b && equal xs xs) (eq-eqb x x refl) ∙ equal_self xs
+equal_self (x ∷ xs) = grind (arith, nat_tests, equal_self xs)
 
 pub same_true : (m other : Message) → same m other ≡ true → m ≡ other
 unfolding same
