@@ -2,7 +2,7 @@
 -- One more root adds what it names.
 use Rattle.std.proofs.Common.{◌≡◌, ℕ, ◌+◌, ◌<◌, ◌⊎◌, List, length, get_or, take, ◌∙◌, inl, inr, ⊎_elim}
 use Rattle.std.proofs.lemmas.List.{take_more}
-use Rattle.std.proofs.ByRecursion.{has_get_or, has_push_cases}
+use Rattle.std.proofs.lemmas.List.Elements.{Contains-get_or, Contains-push_cases}
 use Rattle.model.specs.Cells.{Cells}
 use Rattle.model.specs.References.{Names}
 use Rattle.model.specs.declared.reference.Reference.{Reference}
@@ -16,13 +16,13 @@ Holding n roots i before after = Shading (Held n roots) (Held n (take i roots)) 
 
 module _ (n : ℕ) (roots : List Reference) (before : Cells) (i : ℕ) (middle : Cells) (so_far : Holding n roots i before middle) (low : i < length roots) (x : Reference) (read : x ≡ get_or roots i x) where
   among : (c : ℕ) → Names n c x → Held n roots c
-  among c names = record { reference = x; stands = rw read (has_get_or roots i x low); names = names }
+  among c names = record { reference = x; stands = rw read (Contains-get_or roots i x low); names = names }
 
   before_or_at : (c : ℕ) → Held n (take (i + 1) roots) c → Held n (take i roots) c ⊎ Names n c x
   before_or_at c held = ⊎_elim
       (λ has. inl (record { reference = held.reference; stands = has; names = held.names }))
       (λ e. let same : x ≡ held.reference = read ∙ e in inr (rw same held.names))
-      (has_push_cases (take i roots) (get_or roots i x) held.reference (rw (take_more roots i x low) at held.stands))
+      (Contains-push_cases (take i roots) (get_or roots i x) held.reference (rw (take_more roots i x low) at held.stands))
 
   pub holding_more : (after : Cells) → Darkened (λ c. Names n c x) n middle after → Shaded (λ c. Names n c x) n middle after → Holding n roots (i + 1) before after
   holding_more = shading_more (Held n roots) (Held n (take i roots)) n before middle so_far (λ c. Names n c x) among (Held n (take (i + 1) roots)) before_or_at

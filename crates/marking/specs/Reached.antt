@@ -1,7 +1,7 @@
 -- Which cells of a node are reached: those held, those grey already, and those that a slot of a reached cell names.
 -- The slots of a cell that is black already are not followed, nor is what names a cell of another node.
 use Rattle.std.specs.Prelude.{◌≡◌, ℕ, ◌<◌, true, false, ◌⊎◌, List, Some, None, slice_index_or}
-use Rattle.std.specs.List.{ContainsAt as Has}
+use Rattle.std.specs.List.{Contains}
 use Rattle.model.specs.Cells.{Cells, slots_of, is_grey, is_black}
 use Rattle.model.specs.References.{Names}
 use Rattle.model.specs.declared.reference.Reference.{Reference}
@@ -9,7 +9,7 @@ use Rattle.model.specs.declared.reference.Reference.{Reference}
 -- one of the roots names cell c of node n
 pub record Held (n : ℕ) (roots : List Reference) (c : ℕ) : Type 0 where
   pub reference : Reference
-  pub stands : Has roots reference
+  pub stands : Contains roots reference
   pub names : Names n c reference
 
 -- one of the slots of cell b names cell c, both of node n

@@ -22,3 +22,7 @@ is_put f g n v here there = fun_ext (λ k. put_elim (λ m x. g m ≡ x) f n v k 
 pub is_put₂ : {X : Type 0} (f g : ℕ → ℕ → X) (n i : ℕ) (v : X) → g n i ≡ v → ((m k : ℕ) → (m ≡ n → k ≡ i → ⊥) → g m k ≡ f m k) → g ≡ put₂ f n i v
 is_put₂ f g n i v here there =
     is_put f g n (put (f n) i v) (is_put (f n) (g n) i v here (λ k off. there n k (λ _ e. off e))) (λ m off. fun_ext (λ k. there m k (λ e _. off e)))
+
+-- by whether k and j are the place that changed
+pub put₂_elim : {X : Type 0} (P : ℕ → ℕ → X → Type 0) (f : ℕ → ℕ → X) (n i : ℕ) (v : X) (k j : ℕ) → P n i v → ((k ≡ n → j ≡ i → ⊥) → P k j (f k j)) → P k j (put₂ f n i v k j)
+put₂_elim P f n i v k j here there = grind (arith, nat_tests)

@@ -1,6 +1,6 @@
 -- Questions of which each is answered yes.
--- Nothing is refused then.
-use Rattle.std.proofs.Common.{◌≡◌, true, [], ◌∷◌, Some}
+-- Nothing is refused then, and only then.
+use Rattle.std.proofs.Common.{◌≡◌, true, [], ◌∷◌, Some, None, arith}
 use Rattle.model.specs.Refusals.{Questions, first_no}
 use Rattle.model.specs.declared.refusal.Refusal.{Refusal}
 
@@ -8,6 +8,10 @@ use Rattle.model.specs.declared.refusal.Refusal.{Refusal}
 abbrev pub AllYes : Questions → Type 0
 AllYes [] = Unit {0}
 AllYes (q ∷ more) = (q.1 ≡ true) × AllYes more
+
+pub all_yes : (questions : Questions) → first_no questions ≡ None → AllYes questions
+all_yes [] e = tt
+all_yes (q ∷ more) e = grind (arith, all_yes more)
 
 pub no_refusal : (questions : Questions) (why : Refusal) → AllYes questions → first_no questions ≡ Some why → ⊥
 no_refusal [] why each e = cc

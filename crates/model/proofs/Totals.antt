@@ -8,6 +8,17 @@ unfolding total
 total_same zero f g h = refl
 total_same (suc n) f g h = grind (arith, total_same n f g, h)
 
+-- the first place apart
+pub total_front : (n : ℕ) (f : ℕ → ℕ) → total (suc n) f ≡ f 0 + total n (λ c. f (suc c))
+unfolding total
+total_front zero f = omega arith
+total_front (suc n) f = omega (arith, total_front n f)
+
+pub total_add : (n : ℕ) (f g : ℕ → ℕ) → total n (λ k. f k + g k) ≡ total n f + total n g
+unfolding total
+total_add zero f g = refl
+total_add (suc n) f g = omega (arith, total_add n f g)
+
 -- every value is m
 pub total_all : (n m : ℕ) → total n (λ k. m) ≡ n * m
 unfolding total
