@@ -1,30 +1,27 @@
 -- Each make takes one cell more of a node into use, until all 64 are.
-use Rattle.std.proofs.Common.{◌≡◌, ℕ, ◌+◌, ◌<◌, ◌≤◌, Bool, true, false, cond, ltb, Some, None, Ok, Err, Option, Result, sym, refl, ap, ◌∙◌, ap₂, arith}
-use Rattle.std.proofs.lemmas.Bool.{lt-ltb, le-ltb, ltb-true, ltb-false, false≢true}
+use Rattle.std.proofs.Common.{◌≡◌, ℕ, ◌+◌, ◌<◌, ◌≤◌, true, false, ltb, Some, None, Ok, Err, Option, sym, ap, ◌∙◌, arith}
+use Rattle.std.proofs.lemmas.Bool.Decides.{nat_tests}
+use Rattle.std.proofs.lemmas.Bool.{lt-ltb, le-ltb}
 use Rattle.model.specs.Refusals.{first_no}
 use Rattle.model.specs.Tables.{put, one, first, is_some}
 use Rattle.model.specs.Cells.{Cell, Cells, all_free, empty_slots, is_free, is_used}
-use Rattle.model.specs.Cells.Cell.{free, used}
+use Rattle.model.specs.Cells.Cell.{used}
 use Rattle.model.specs.Heaps.{some_free, make_asks, Made}
 use Rattle.model.specs.declared.colour.Colour.{Colour}
 use Rattle.model.specs.declared.refusal.Refusal.{Refusal}
-use Rattle.model.specs.declared.refusal.Refusal.TheVariants.{NoSuchNode, NoFreeCell}
 use Rattle.model.proofs.Firsts.{Found, first_found}
 use Rattle.model.proofs.Puts.{put_here, put_there}
 use Rattle.model.proofs.Totals.{total_same, total_all, total_bound, total_change, total_lt}
 use Rattle.known.specs.Filling.{used_count, after_makes}
 
 used_one : (x : Cell) → one (is_used x) ≤ 1
-used_one free = omega arith
-used_one (used colour slots) = omega arith
+used_one x = grind arith
 
 not_free : (x : Cell) → is_free x ≡ false → one (is_used x) ≡ 1
-not_free free e = absurd (false≢true (sym e))
-not_free (used colour slots) e = refl
+not_free x e = grind arith
 
 is_free_zero : (x : Cell) → is_free x ≡ true → one (is_used x) ≡ 0
-is_free_zero free e = refl
-is_free_zero (used colour slots) e = absurd (false≢true e)
+is_free_zero x e = grind arith
 
 at_most_64 : (cells : Cells) (n : ℕ) → used_count cells n ≤ 64
 at_most_64 cells n = omega (arith, total_bound 64 1 (λ c. one (is_used (cells n c))) (λ c h. used_one (cells n c)))
@@ -58,29 +55,13 @@ one_more before after n k c colour filled asked made = record {
       let there = total_change 64 (λ j. one (is_used (before n j))) (λ j. one (is_used (after n j))) c made.low
       (λ j off. ap (λ f. one (is_used (f j))) row ∙ ap (λ x. one (is_used x)) (put_there (before n) c (used colour empty_slots) j off)) in
       omega (arith, filled.count);
-  near = λ h. ltb-true n 16 (inside (ltb n 16) (some_free before n) asked);
+  near = λ h. grind (arith, nat_tests, asked);
 }
-  where
-    inside : (a b : Bool) → cond a (cond b None (Some NoFreeCell)) (Some NoSuchNode) ≡ None → a ≡ true
-    inside true b e = refl
-    inside false b e = cc
-
--- what comes of a make, by whether there is the node and whether it has room
-abbrev answer : Bool → Bool → Result Unit Refusal
-answer near room = cond near (cond room (Ok tt) (Err NoFreeCell)) (Err NoSuchNode)
 
 -- count makes and one more, all granted
 pub all_granted : (cells : Cells) (n count : ℕ) → Filled cells n (count + 1) → Ok tt ≡ after_makes n count
-all_granted cells n count filled =
-    sym (ap₂ answer (lt-ltb n 16 (filled.near (omega arith))) (lt-ltb count 64 (omega (arith, filled.count, at_most_64 cells n))))
+all_granted cells n count filled = grind (arith, nat_tests, filled.near (omega arith), filled.count, at_most_64 cells n)
 
 -- a make is refused after k of them: one make more than count, which is no less, is refused for the same reason
 pub refused : (cells : Cells) (n k count : ℕ) (why : Refusal) → Filled cells n k → k ≤ count → first_no (make_asks cells n) ≡ Some why → Err why ≡ after_makes n count
-refused cells n k count why filled most asked = go (ltb n 16) (some_free cells n) (room cells n) asked
-  where
-    go : (a b : Bool) → b ≡ ltb (used_count cells n) 64 → cond a (cond b None (Some NoFreeCell)) (Some NoSuchNode) ≡ Some why → Err why ≡ answer a (ltb count 64)
-    go false b left e = cc
-    go true true left e = cc
-    go true false left e =
-        let full : ltb count 64 ≡ false = le-ltb count 64 (omega (arith, filled.count, ltb-false (used_count cells n) 64 (sym left))) in
-        cc
+refused cells n k count why filled most asked = grind (arith, nat_tests, filled.count, room cells n, asked)
