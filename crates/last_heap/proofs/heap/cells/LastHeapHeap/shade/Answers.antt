@@ -1,7 +1,7 @@
 use Rattle.std.proofs.Common.{◌<◌, sym, ◌∙◌, rules}
 use Rattle.model.specs.Cells.{shaded}
 use Rattle.last_heap.specs.Last.{last_cells}
-use Rattle.last_heap.proofs.Changes.{shaded_free, white_shaded, other_shaded}
+use Rattle.last_heap.proofs.Changes.{shaded_free, white_shaded}
 use Rattle.last_heap.proofs.Stacked.{stays, comes, has_room}
 use Rattle.last_heap.proofs.heap.cells.LastHeapHeap.shade.Goals as goal
 
@@ -25,15 +25,4 @@ invariant_of-self-then-has c =
     record {
       unused = stays heap.unused n cell shaded c.in_ok-shade.ensures.1 (shaded_free was);
       reached = comes heap.reached n cell shaded c.in_ok-shade.ensures.1 low grey.0 grey.1 c.push.ensures;
-    }
-
-pub invariant_of-self-else-has : goal.invariant_of-self-else-has
-invariant_of-self-else-has c =
-    let heap = c.args.self.now in
-    let n = c.in_ok-node.node.number in
-    let cell = c.args.cell in
-    let was = last_cells heap n cell in
-    record {
-      unused = stays heap.unused n cell shaded c.in_ok-shade.ensures.1 (shaded_free was);
-      reached = stays heap.reached n cell shaded c.in_ok-shade.ensures.1 (other_shaded was (sym (c.in_ok-white.ensures.1 cell) ∙ sym c.if-has.ensures));
     }
