@@ -8,6 +8,7 @@ use crate::reference::Reference;
 use crate::refusal::Refusal;
 use crate::tally::Tally;
 
+// Node and cell are two numbers and no Reference, which would ask of a caller what a call refuses.
 pub trait Heap {
     // the cells, by node and number
     ghost cells: { Self → Cells };

@@ -9,6 +9,7 @@ use super::LastHeap;
 use super::node::Node;
 use model::{Colour, Heap, Reference, Refusal, Tally};
 
+// A call that chooses nothing is the table's, in a line, here and in the other heap: one heap over a choice would say each call's effect on the choice through a trait.
 impl Heap for LastHeap {
     ghost cells = { last_cells };
 

@@ -5,6 +5,7 @@ ghost use Rattle.model.specs.Kinds.{kind_number, carries};
 use super::Kind;
 
 impl Kind {
+    // A table, since `as` gives a number only to an enum that carries nothing.
     pub fn number(self) -> u8
         ensures { result ≡ kind_number self }
     {

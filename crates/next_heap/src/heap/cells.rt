@@ -8,6 +8,7 @@ ghost use Rattle.table.proofs.Held.{sized};
 use super::NextHeap;
 use model::{Colour, Heap, Reference, Refusal, Tally};
 
+// A call that chooses nothing is the table's, in a line, here and in the other heap: one heap over a choice would say each call's effect on the choice through a trait.
 impl Heap for NextHeap {
     ghost cells = { next_cells };
 
