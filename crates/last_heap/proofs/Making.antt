@@ -25,8 +25,7 @@ none_free heap node none =
 
 -- what follows once cell c of node n is taken from the stack and into use
 pub record Making (heap : LastHeap) (n : ℕ) (colour : Colour) (rest : Stacks) (c : ℕ) (after : Table) : Type 0 where
-  pub some : some_free (last_cells heap) n ≡ true
-  pub made : Made (last_cells heap) n colour (cells_of after) c
+  pub made : (some_free (last_cells heap) n ≡ true) × Made (last_cells heap) n colour (cells_of after) c
   pub unused : Stacked is_free (cells_of after) (stack rest)
   pub room : length (greys heap n) < 64
   pub reached : {others : ℕ → List ℕ} → others ≡ cond (shows_grey colour) (on_top (greys heap) n c) (greys heap) → Stacked is_grey (cells_of after) others
@@ -42,8 +41,7 @@ making heap node colour rest c after top occupied =
     let was_free : cells n c ≡ free = from_free (cells n c) passes.1 in
     let made : cells_of after ≡ put₂ cells n c (used colour empty_slots) = grind (arith, nat_tests, node.near) in
     record {
-      some = first_is_some 64 (λ k. is_free (cells n k)) c passes.0 passes.1;
-      made = record { low = passes.0; was_free = was_free; cells = made };
+      made = (first_is_some 64 (λ k. is_free (cells n k)) c passes.0 passes.1, record { low = passes.0; was_free = was_free; cells = made });
       unused = pops heap.unused n c (λ _. used colour empty_slots) made (stack rest) refl top;
       room = has_room heap.reached n node.near c passes.0 (grind arith);
       reached = λ {others} is. record { once = λ m near d. grind (arith, nat_tests, heap.reached.once m near d, times_push d (greys heap n) c) };
