@@ -27,7 +27,7 @@ pub rising_more : (xs : List ℕ) (n : ℕ) (p : ℕ → Bool) → xs ++ rising 
 unfolding rising
 rising_more xs n p = rw add-one (grind (arith, append_assoc xs (rising n p) (n ∷ []), append-nil (rising n p)))
 
--- a longer range has one that passes more
+-- a range that goes on past a number that passes is longer
 rising_longer : (i n : ℕ) (p : ℕ → Bool) → i < n → p i ≡ true → length (rising i p) < length (rising n p)
 unfolding rising
 rising_longer i zero p l passes = absurd (omega arith)

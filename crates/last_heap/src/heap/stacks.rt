@@ -70,7 +70,7 @@ impl Stacks {
 }
 
 // Adds the cells of a set to a list, the lowest first.
-#[tactic(auto, using(crate::proofs::Ranges::rising_more, crate::proofs::Ranges::rising_room, crate::proofs::Ranges::rising_none))]
+#[tactic(auto, using(crate::proofs::Ranges::rising_none))]
 fn append(list: &mut CellList, cells: CellSet)
     requires { length (listed list.old ++ rising 64 (has cells)) ≤ 64 }
     ensures { listed list.new ≡ listed list.old ++ rising 64 (has cells) }
@@ -83,7 +83,7 @@ fn append(list: &mut CellList, cells: CellSet)
 }
 
 // All cells, the lowest last.
-#[tactic(auto, using(crate::proofs::Ranges::falling_more, crate::proofs::Ranges::falling_none))]
+#[tactic(auto, using(crate::proofs::Ranges::falling_none))]
 pub(super) fn all_cells() -> CellList
     ensures { listed result ≡ falling 64 }
 {
