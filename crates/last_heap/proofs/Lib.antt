@@ -1,4 +1,3 @@
-mod Changes
 mod Ranges
 mod Replaced
 mod Stacked

@@ -26,6 +26,7 @@ impl LastHeap {
     }
 
     // Takes the top free cell into use, if there is one.
+    #[tactic(auto, using(crate::proofs::Making::none_free))]
     pub(super) fn take(&mut self, node: Node, colour: Colour) -> Option<u8>
         ensures cells { TakesFree self.old node.number colour result self.new }
         ensures choice { TakesLast self.old node.number colour result self.new }

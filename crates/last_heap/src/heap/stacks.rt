@@ -32,6 +32,7 @@ impl Stacks {
     }
 
     // Takes the top cell away, if there is one.
+    #[tactic(auto, using(crate::proofs::Replaced::takes))]
     pub(super) fn pop(&mut self, node: Node) -> Option<u8>
         ensures { Takes self.old node.number result self.new }
     {
@@ -69,6 +70,7 @@ impl Stacks {
 }
 
 // Adds the cells of a set to a list, the lowest first.
+#[tactic(auto, using(crate::proofs::Ranges::rising_none))]
 fn append(list: &mut CellList, cells: CellSet)
     requires { length (listed list.old ++ rising 64 (has cells)) ≤ 64 }
     ensures { listed list.new ≡ listed list.old ++ rising 64 (has cells) }
@@ -81,6 +83,7 @@ fn append(list: &mut CellList, cells: CellSet)
 }
 
 // All cells, the lowest last.
+#[tactic(auto, using(crate::proofs::Ranges::falling_none))]
 pub(super) fn all_cells() -> CellList
     ensures { listed result ≡ falling 64 }
 {

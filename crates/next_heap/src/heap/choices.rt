@@ -20,6 +20,7 @@ impl NextHeap {
     }
 
     // The node's lowest grey cell, if it has one.
+    #[tactic(auto, using(crate::proofs::Chosen::grey_lowest))]
     pub(super) fn lowest_grey(&self, node: u8) -> Result<Option<u8>, Refusal>
         ensures cells { AnswersGrey next_cells self.now node result }
         ensures choice { AnswersLowest self.now node result }

@@ -12,7 +12,7 @@ use model::{Colour, Reference, Refusal, Tally, ask};
 
 impl Row {
     // Every cell is free.
-    #[tactic(auto, using(crate::proofs::Cells::all_freed))]
+    #[tactic(auto, unfolding(crate::specs::Rows::row_cells))]
     pub(crate) fn new() -> Row
         ensures { (c : ℕ) → row_cells result c ≡ free }
     {

@@ -5,4 +5,4 @@ use Rattle.last_heap.specs.Stacks.{rising}
 use Rattle.last_heap.proofs.heap.stacks.append.Given as goal
 
 abbrev pub invariant-loop-cell : goal.invariant-loop-cell
-invariant-loop-cell l = listed l.list ≡ listed l.initial.list ++ rising l.cell (has l.cells)
+invariant-loop-cell l = listed l.list ≡ listed l.fn.list ++ rising l.cell (has l.cells)

@@ -1,28 +1,12 @@
-use Rattle.std.proofs.Common.{◌<◌, sym, ◌∙◌, rules}
+use Rattle.std.proofs.Common.{rules, arith}
 use Rattle.model.specs.Cells.{shaded}
-use Rattle.last_heap.specs.Last.{last_cells}
-use Rattle.last_heap.proofs.Changes.{shaded_free, white_shaded}
-use Rattle.last_heap.proofs.Stacked.{stays, comes, has_room}
+use Rattle.last_heap.proofs.Stacked.{comes, has_room}
 use Rattle.last_heap.proofs.heap.cells.LastHeapHeap.shade.Goals as goal
 
 pub push-requires : goal.push-requires
-push-requires c =
-    let heap = c.args.self.now in
-    let node = c.in_ok-node.node in
-    let cell = c.args.cell in
-    let low : cell < 64 = search rules in
-    let white = sym (c.in_ok-white.ensures.1 cell) ∙ sym c.if-has.ensures in
-    has_room heap.reached node.number node.near cell low (white_shaded (last_cells heap node.number cell) white).0
+push-requires c = has_room c.args.self.now.reached _ c.in_ok-node.node.near c.args.cell (search rules) (grind (arith, c.in_ok-white.ensures.1 c.args.cell))
 
-pub invariant_of-self-then-has : goal.invariant_of-self-then-has
-invariant_of-self-then-has c =
-    let heap = c.args.self.now in
-    let n = c.in_ok-node.node.number in
-    let cell = c.args.cell in
-    let low : cell < 64 = search rules in
-    let was = last_cells heap n cell in
-    let grey = white_shaded was (sym (c.in_ok-white.ensures.1 cell) ∙ sym c.if-has.ensures) in
-    record {
-      unused = stays heap.unused n cell shaded c.in_ok-shade.ensures.1 (shaded_free was);
-      reached = comes heap.reached n cell shaded c.in_ok-shade.ensures.1 low grey.0 grey.1 c.push.ensures;
-    }
+pub invariant_of-self-then-has-clause-reached : goal.invariant_of-self-then-has-clause-reached
+invariant_of-self-then-has-clause-reached c =
+    let was_white = c.in_ok-white.ensures.1 c.args.cell in
+    comes c.args.self.now.reached _ c.args.cell shaded c.in_ok-shade.ensures.1 (search rules) (grind (arith, was_white)) (grind (arith, was_white)) c.push.ensures
