@@ -23,9 +23,8 @@ some_from : (w from : ℕ) → w < 2 ^ 64 → (w / 2 ^ from ≡ 0 → ⊥) → f
 some_from w from fits some =
     let zeros = trailing_zeros w64 (w / 2 ^ from) in
     let found = bit_at-trailing_zeros w64 (w / 2 ^ from) (omega arith) (omega (arith, shr_le w from)) in
-    let here : bit_at w (from + zeros) ≡ 1 = grind (arith, shr-shr w from zeros) in
-    let cell : from + zeros < 64 = grind (arith, bit_at_above w 64 (from + zeros) fits) in
-    first_some 64 (from_on w from) (from + zeros) cell (grind (arith, nat_tests)) (λ c h. none_at w from c (λ l. found.2 (c - from) (omega arith)))
+    let cell : from + zeros < 64 = grind (arith, bit_at_above w 64 (from + zeros) fits, shr-shr w from zeros) in
+    first_some 64 (from_on w from) (from + zeros) cell (grind (arith, nat_tests, shr-shr w from zeros)) (λ c h. none_at w from c (λ l. found.2 (c - from) (omega arith)))
 
 -- `w / 2 ^ from ≡ w / 2 ^ from` says nothing: it shows `grind` what to match
 pub lowest_is : (w from : ℕ) → w < 2 ^ 64 → (w / 2 ^ from ≡ w / 2 ^ from) × (first 64 (from_on w from) ≡ cond (w / 2 ^ from == 0) None (Some (from + trailing_zeros w64 (w / 2 ^ from))))
