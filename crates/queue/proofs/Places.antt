@@ -10,7 +10,7 @@ use Rattle.model.specs.declared.message.Message.{Message}
 use Rattle.queue.specs.Queues.{lane, placed, place_of}
 
 -- what a place says of number k of the lane of node n, where places start at i
-abbrev pub Stands : ℕ → ℕ → List Message → ℕ → Option ℕ → Type 0
+abbrev Stands : ℕ → ℕ → List Message → ℕ → Option ℕ → Type 0
 Stands n i xs k None = length (lane n xs) ≤ k
 Stands n i xs k (Some at) = (i ≤ at) × (at < i + length xs) × (slice_get (lane n xs) k ≡ slice_get xs (at - i)) × (lane n (remove xs (at - i)) ≡ remove (lane n xs) k)
 
