@@ -5,6 +5,7 @@ use last_heap::LastHeap;
 use model::{Colour, Heap, Refusal};
 
 // A heap that makes the cell freed last makes two white cells and reclaims them: what does it make then?
+#[tactic(auto, using(crate::proofs::Freed::first_made, crate::proofs::Freed::second_made, crate::proofs::Freed::higher_first))]
 pub fn make_after_reclaim() -> Result<u8, Refusal>
     ensures { result ≡ Ok 1 }
 {

@@ -1,43 +1,40 @@
 -- The lanes of a list of messages, where one is added or taken out.
-use Rattle.std.proofs.Common.{◌≡◌, ℕ, ◌+◌, Bool, true, false, cond, List, [], ◌∷◌, ◌++◌, length, sym, refl, ap, ◌∙◌, arith}
+use Rattle.std.proofs.Common.{◌≡◌, ℕ, zero, suc, ◌+◌, List, [], ◌∷◌, ◌++◌, length, Some, refl, arith}
+use Rattle.std.specs.List.{slice_get, remove}
+use Rattle.std.proofs.lemmas.Bool.Decides.{nat_tests}
 use Rattle.std.proofs.lemmas.List.Elements.{filter-append}
 use Rattle.std.proofs.lemmas.List.{append-nil}
-use Rattle.std.proofs.lemmas.Bool.{eq-eqb, ne_eqb}
 use Rattle.model.specs.Tables.{one}
 use Rattle.model.specs.Messages.{for, how_many, sum, same, Added}
 use Rattle.model.specs.declared.message.Message.{Message}
-use Rattle.model.proofs.Counts.{sum_middle}
+use Rattle.model.proofs.Counts.{sum_append}
 use Rattle.model.proofs.Puts.{is_put}
 use Rattle.queue.specs.Queues.{lane, lanes_with}
 
 pub lane_length : (n : ℕ) (xs : List Message) → length (lane n xs) ≡ how_many (for n) xs
 lane_length n [] = refl
-lane_length n (x ∷ xs) = go (for n x) (lane_length n xs)
-  where
-    go : (b : Bool) → length (lane n xs) ≡ how_many (for n) xs → length (cond b (x ∷ lane n xs) (lane n xs)) ≡ one b + how_many (for n) xs
-    go true e = omega (arith, e)
-    go false e = omega (arith, e)
+lane_length n (x ∷ xs) = grind (arith, lane_length n xs)
 
--- a message in the middle of a list stands in the middle of its own lane, and in no other
-pub lane_own : (n : ℕ) (older : List Message) (m : Message) (newer : List Message) → m.to ≡ n → lane n (older ++ (m ∷ newer)) ≡ lane n older ++ (m ∷ lane n newer)
-lane_own n older m newer to =
-    filter-append (for n) older (m ∷ newer) ∙ ap (λ b. lane n older ++ cond b (m ∷ lane n newer) (lane n newer)) (eq-eqb m.to n to)
+-- a message of a lane is for its node
+pub lane_for : (n : ℕ) (xs : List Message) (k : ℕ) (m : Message) → slice_get (lane n xs) k ≡ Some m → m.to ≡ n
+lane_for n [] k m e = cc
+lane_for n (x ∷ xs) zero m e = grind (arith, nat_tests, lane_for n xs zero m)
+lane_for n (x ∷ xs) (suc k) m e = grind (arith, lane_for n xs k m, lane_for n xs (suc k) m)
 
-pub lane_other : (n : ℕ) (older : List Message) (m : Message) (newer : List Message) → (m.to ≡ n → ⊥) → lane n (older ++ (m ∷ newer)) ≡ lane n (older ++ newer)
-lane_other n older m newer off =
-    filter-append (for n) older (m ∷ newer)
-    ∙ ap (λ b. lane n older ++ cond b (m ∷ lane n newer) (lane n newer)) (ne_eqb m.to n off)
-    ∙ sym (filter-append (for n) older newer)
+-- message m stands at a place, and is taken out
+module _ (m : Message) where
+  pub sum_without : (f : Message → ℕ) (xs : List Message) (at : ℕ) → slice_get xs at ≡ Some m → sum f xs ≡ f m + sum f (remove xs at)
+  sum_without f [] at e = cc
+  sum_without f (x ∷ xs) zero e = grind arith
+  sum_without f (x ∷ xs) (suc at) e = grind (arith, sum_without f xs at)
+
+  pub lane_without : (n : ℕ) (xs : List Message) (at : ℕ) → slice_get xs at ≡ Some m → (n ≡ m.to → ⊥) → lane n (remove xs at) ≡ lane n xs
+  lane_without n [] at e off = cc
+  lane_without n (x ∷ xs) zero e off = grind (arith, nat_tests)
+  lane_without n (x ∷ xs) (suc at) e off = grind (arith, lane_without n xs at)
 
 pub added_last : (m : Message) (xs ys : List Message) → ys ≡ xs ++ (m ∷ []) → (λ n. lane n ys) ≡ lanes_with m (λ n. lane n xs)
-added_last m xs ys more =
-    ap (λ zs n. lane n zs) more
-    ∙ is_put (λ n. lane n xs) (λ n. lane n (xs ++ (m ∷ []))) m.to (lane m.to xs ++ (m ∷ []))
-    (lane_own m.to xs m [] refl)
-    (λ k off. lane_other k xs m [] (λ e. off (sym e)) ∙ ap (lane k) (append-nil xs))
+added_last m xs ys more = rw more (is_put _ _ _ _ (grind (arith, nat_tests, filter-append (for m.to) xs)) (λ k off. grind (arith, nat_tests, filter-append (for k) xs, append-nil)))
 
 pub added_count : (m : Message) (xs ys : List Message) → ys ≡ xs ++ (m ∷ []) → Added m xs ys
-added_count m xs ys more x =
-    ap (λ zs. sum (λ other. one (same x other)) zs) more
-    ∙ sum_middle (λ other. one (same x other)) xs m []
-    ∙ ap (λ zs. one (same x m) + sum (λ other. one (same x other)) zs) (append-nil xs)
+added_count m xs ys more x = rw more (omega (arith, sum_append (λ other. one (same x other)) xs (m ∷ [])))

@@ -1,5 +1,5 @@
 -- Those behind a place move up by one, up to the end.
-use Rattle.std.proofs.Common.{◌≡◌, ℕ, suc, ◌+◌, ◌-◌, ◌<◌, ◌≤◌, List, ◌++◌, length, take, drop, sym, ap, ◌∙◌, subst, ap₂, add-one, arith}
+use Rattle.std.proofs.Common.{◌≡◌, ℕ, suc, ◌+◌, ◌-◌, ◌<◌, ◌≤◌, List, length, take, drop, add-one, arith}
 use Rattle.std.specs.List.{copy_within, remove}
 use Rattle.std.proofs.lemmas.List.Edits.{take-paste}
 use Rattle.std.proofs.lemmas.List.{length-take, length-drop, take-take, drop-take}
@@ -8,10 +8,9 @@ pub moved_up : {X : Type 0} (xs ys : List X) (at n : ℕ) → at < length (take 
 moved_up xs ys at n within fits moved =
     let near : at < n = omega (arith, within, length-take n xs) in
     let j = n - (at + 1) in
-    let whole : at + j ≡ n - 1 = omega arith in
-    let next : suc at + j ≡ n = omega arith in
-    ap (take (n - 1)) moved
-    ∙ subst (λ k. take k (copy_within xs (at + 1) n at) ≡ take at xs ++ take j (drop (at + 1) xs)) whole
-    (take-paste xs at (drop (at + 1) xs) j (omega arith) (omega (arith, length-drop (at + 1) xs)))
-    ∙ ap₂ ◌++◌ (sym (take-take at n xs (omega arith)))
-    (ap (λ k. take j (drop k xs)) (add-one at) ∙ sym (drop-take (suc at) j xs) ∙ ap (λ k. drop (suc at) (take k xs)) next)
+    let whole : n - 1 ≡ at + j = omega arith in
+    let next : n ≡ suc at + j = omega arith in
+    let front = take-paste xs at (drop (at + 1) xs) j (omega arith) (omega (arith, length-drop (at + 1) xs)) in
+    let below = take-take at n xs (omega arith) in
+    let above = drop-take (suc at) j xs in
+    rw (moved, whole) (cc (front, below, above, next, add-one at))

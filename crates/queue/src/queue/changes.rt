@@ -43,6 +43,7 @@ impl Queue {
     }
 
     // Takes the message for the node that has `ahead` others for it before it, if there is one.
+    #[tactic(auto, using(crate::proofs::Places::within))]
     fn take(&mut self, node: u8, ahead: usize) -> Option<Message>
         ensures waiting { Reaches (lanes self.old node) ahead → Gives queued limit_of self.old node result self.new }
         ensures choice { Given self.old node ahead result self.new }

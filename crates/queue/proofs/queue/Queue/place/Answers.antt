@@ -9,9 +9,6 @@ use Rattle.queue.proofs.queue.Queue.place.Goals as goal
 
 pub returns : goal.returns
 returns c =
-    let test : ℕ × Message → _ = λ p. for c.args.node p.1 in
     let slice = YieldsList-at c.enumerate.ensures.source (YieldsList-from_slice (queued c.args.self.now) cc) in
     let numbered = YieldsList-at c.filter.ensures.source (YieldsList-from_enumerate slice c.enumerate.ensures.count) in
-    let got = nth_from_yields_List c.nth.result c.nth.new.self c.args.ahead c.nth.ensures.ran
-    (YieldsList-from_filter _ test numbered c.filter.ensures.closure (λ x r q k. search (rules, tests))) in
-    rw (← got) (search rules)
+    rw (← nth_from_yields_List _ _ _ c.nth.ensures.ran (YieldsList-from_filter _ (λ (p : ℕ × Message). for c.args.node p.1) numbered c.filter.ensures.closure (λ x r q k. search (rules, tests)))) (search rules)
