@@ -1,8 +1,7 @@
 -- What a queue gives, where number k of the lane of node n is taken out.
-use Rattle.std.proofs.Common.{◌≡◌, ℕ, suc, ◌≤◌, List, [], ◌∷◌, ◌++◌, length, Some, None, sym, refl, ap, ◌∙◌, ap₂, arith}
+use Rattle.std.proofs.Common.{◌≡◌, ℕ, ◌≤◌, List, [], ◌∷◌, ◌++◌, length, Some, None, sym, refl, ap, ◌∙◌, ap₂, arith}
 use Rattle.std.specs.List.{slice_get, remove}
 use Rattle.std.proofs.lemmas.List.Elements.{filter-append}
-use Rattle.std.proofs.lemmas.List.{append-nil, take_all, drop_all}
 use Rattle.std.proofs.lemmas.List.Edits.{remove-append_right}
 use native.Mathlib.Nat.{sub_self}
 use Rattle.std.proofs.lemmas.Option.{slice_get_past}
@@ -12,6 +11,7 @@ use Rattle.model.specs.Channels.{Gives}
 use Rattle.model.specs.declared.message.Message.{Message}
 use Rattle.model.proofs.Counts.{sum_middle}
 use Rattle.model.proofs.Puts.{is_put}
+use Rattle.short_list.proofs.Shifting.{removed_past}
 use Rattle.queue.specs.Queues.{queued, limit_of, lane, lanes, lanes_without, place_of, Reaches, Given}
 use Rattle.queue.specs.declared.queue.Queue.{Queue}
 use Rattle.queue.proofs.Lanes.{lane_length, lane_own, lane_other}
@@ -24,9 +24,6 @@ nth_middle (x ∷ older) m newer = nth_middle older m newer
 removed_middle : (older : List Message) (m : Message) (newer : List Message) → remove (older ++ (m ∷ newer)) (length older) ≡ older ++ newer
 removed_middle older m newer =
     remove-append_right older (m ∷ newer) (length older) (length older) refl (omega arith) ∙ ap (λ i. older ++ remove (m ∷ newer) i) (sub_self (length older))
-
-removed_past : {X : Type 0} (xs : List X) (k : ℕ) → length xs ≤ k → remove xs k ≡ xs
-removed_past xs k past = ap₂ ◌++◌ (take_all k xs past) (drop_all (suc k) xs (omega arith)) ∙ append-nil xs
 
 -- what is known when message m, which has k others for node n before it, is taken out of xs
 pub record Out (xs : List Message) (n k : ℕ) (m : Message) (left : List Message) : Type 0 where
