@@ -4,8 +4,7 @@ use Rattle.std.proofs.Common.{◌≡◌, ℕ, ◌+◌, ◌<◌, ◌≤◌, Bool,
 use Rattle.std.proofs.lemmas.List.Sums.{sum_by-cons, sum_by_push, sum_by-append}
 use Rattle.std.proofs.lemmas.Bool.Decides.{nat_tests}
 use Rattle.model.specs.Tables.{one, put, total}
-use Rattle.cell_list.specs.Lists.{listed, times, Once, without, Pushed}
-use Rattle.cell_list.specs.declared.list.CellList.{CellList}
+use Rattle.cell_list.specs.Lists.{CellList, listed, times, Once, without, Pushed}
 use Rattle.model.proofs.Totals.{total_all, total_bound, total_change, total_lt}
 
 times_cons : (d x : ℕ) (xs : List ℕ) → times d (x ∷ xs) ≡ one (eqb x d) + times d xs

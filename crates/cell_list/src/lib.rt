@@ -1,6 +1,7 @@
 // A short list of cells, as heaps and marking keep them.
 #![tactic(auto)]
 
-mod list;
+use short_list::ShortList;
 
-pub use list::CellList;
+// Up to 64 numbers of cells of one node, in order; the newest is last.
+pub type CellList = ShortList<u8, 64>;

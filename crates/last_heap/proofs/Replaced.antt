@@ -4,8 +4,7 @@ use mathlib.Core.Path.{fun_ext}
 use Rattle.std.proofs.lemmas.Bool.Decides.{nat_tests}
 use Rattle.std.proofs.lemmas.List.{map-set, length-map, get_or-map, get_or-set_same, get_or-set_other, set-get_or}
 use Rattle.model.specs.Tables.{put}
-use Rattle.cell_list.specs.Lists.{listed, Popped}
-use Rattle.cell_list.specs.declared.list.CellList.{CellList}
+use Rattle.cell_list.specs.Lists.{CellList, listed, Popped}
 use Rattle.last_heap.specs.Stacks.{stack, at_nodes, Takes}
 use Rattle.last_heap.specs.declared.heap.stacks.Stacks.{Stacks}
 

@@ -6,8 +6,7 @@ use Rattle.model.specs.Heaps.{in_use}
 use Rattle.model.specs.declared.reference.Reference.{Reference}
 use Rattle.model.specs.declared.refusal.Refusal.{Refusal}
 use Rattle.model.specs.declared.refusal.Refusal.TheVariants.{NoSuchNode, NotInUse}
-use Rattle.cell_list.specs.Lists.{listed, Once}
-use Rattle.cell_list.specs.declared.list.CellList.{CellList}
+use Rattle.cell_list.specs.Lists.{CellList, listed, Once}
 use Rattle.marking.specs.Reached.{Reached}
 use Rattle.marking.specs.Shaded.{Unused}
 

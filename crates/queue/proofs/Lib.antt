@@ -1,5 +1,4 @@
 pub mod Held
 mod Lanes
 mod Places
-mod Shifting
 mod Taken

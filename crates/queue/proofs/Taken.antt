@@ -1,18 +1,15 @@
 -- What a queue gives, where number k of the lane of node n is taken out.
 use Rattle.std.proofs.Common.{◌≡◌, ℕ, suc, ◌≤◌, List, length, Some, None, sym, refl, ◌∙◌, arith}
 use Rattle.std.specs.List.{slice_get, remove}
-use Rattle.std.proofs.lemmas.List.{append-nil, take_all, drop_all}
 use Rattle.std.proofs.lemmas.Option.{slice_get_past}
 use Rattle.model.specs.Channels.{Gives}
 use Rattle.model.specs.declared.message.Message.{Message}
 use Rattle.model.proofs.Puts.{is_put}
+use Rattle.short_list.proofs.Shifting.{removed_past}
 use Rattle.queue.specs.Queues.{queued, limit_of, lanes, place_of, Reaches, Given}
 use Rattle.queue.specs.declared.queue.Queue.{Queue}
 use Rattle.queue.proofs.Lanes.{lane_length, lane_for, sum_without, lane_without}
 use Rattle.queue.proofs.Places.{past, which, left}
-
-removed_past : {X : Type 0} (xs : List X) (k : ℕ) → length xs ≤ k → remove xs k ≡ xs
-removed_past xs k far = cc (take_all k xs far, drop_all (suc k) xs (omega arith), append-nil xs)
 
 module _ (before : Queue) (n k : ℕ) where
   -- number k is m, which stands at a place

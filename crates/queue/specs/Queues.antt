@@ -1,9 +1,10 @@
 -- What a queue holds, and what is added to it and taken from it.
 -- The messages for one node stand in its lane, in the order in which they were put.
-use Rattle.std.specs.Prelude.{◌≡◌, ℕ, ◌≤◌, List, [], ◌∷◌, ◌++◌, length, take, Ok, Err, filter, Option, Result}
+use Rattle.std.specs.Prelude.{◌≡◌, ℕ, ◌≤◌, List, [], ◌∷◌, ◌++◌, length, Ok, Err, filter, Option, Result}
 use Rattle.std.specs.List.{slice_get, remove, enumerate_from}
 use Rattle.std.specs.Option.{option_map}
 use Rattle.model.specs.Tables.{put}
+use Rattle.short_list.specs.Lists.{listed}
 use Rattle.model.specs.Messages.{for}
 use Rattle.model.specs.declared.message.Message.{Message}
 use Rattle.model.specs.declared.refusal.Refusal.{Refusal}
@@ -11,7 +12,7 @@ use Rattle.queue.specs.declared.queue.Queue.{Queue}
 
 -- the messages, the one that waits longest first
 abbrev pub queued : Queue → List Message
-queued queue = take queue.len queue.messages
+queued queue = listed queue.messages
 
 -- how many can wait
 abbrev pub limit_of : Queue → ℕ

@@ -1,15 +1,15 @@
 // Messages for all nodes in order of put, up to a limit; the one that waits longest is first.
-ghost use Rattle.std.specs.Prelude.{◌≤◌};
+ghost use Rattle.std.specs.Prelude.{◌≤◌, length};
+ghost use Rattle.short_list.specs.Lists.{listed};
 
 use model::Message;
+use short_list::ShortList;
 
 #[derive(Clone, Copy)]
 pub struct Queue {
-    // the first `len` wait; an array, since the core allocates nothing and a Queue is Copy, which an ArrayVec is not
-    messages: [Message; 256],
-    len: usize,
+    messages: ShortList<Message, 256>,
     limit: u16,
-    ghost short: { len ≤ limit },
+    ghost short: { length (listed messages) ≤ limit },
     ghost some: { 1 ≤ limit },
     ghost few: { limit ≤ 256 },
 }

@@ -11,7 +11,7 @@ impl Queue {
     pub fn clear(&mut self)
         ensures { Cleared queued limit_of self.old self.new }
     {
-        self.len = 0;
+        self.messages.clear();
     }
 
     // One message more waits.
@@ -58,22 +58,17 @@ impl Queue {
         ensures waiting { queued self.new ≡ queued self.old ++ (message ∷ []) }
         ensures room { limit_of self.new ≡ limit_of self.old }
     {
-        self.messages[self.len] = message;
-        self.len += 1;
+        self.messages.push(message);
     }
 
     // Takes out the message at a place; those behind it move up.
-    #[tactic(auto, using(crate::proofs::Shifting::moved_up))]
     fn remove(&mut self, at: usize) -> Message
         requires { at < length (queued self.old) }
         ensures message { slice_get (queued self.old) at ≡ Some result }
         ensures rest { queued self.new ≡ remove (queued self.old) at }
         ensures room { limit_of self.new ≡ limit_of self.old }
     {
-        let message = self.messages[at];
-        self.messages.copy_within(at + 1..self.len, at);
-        self.len -= 1;
-        message
+        self.messages.take_out(at).unwrap()
     }
 }
 

@@ -4,6 +4,7 @@ ghost use Rattle.queue.specs.Queues.{queued, limit_of, lanes, place_of};
 
 use super::Queue;
 use model::{Kind, Message};
+use short_list::ShortList;
 
 impl Queue {
     // No message waits. The limit is at least 1 and at most 256.
@@ -12,8 +13,7 @@ impl Queue {
         ensures limit { limit_of result ≡ max 1 (min limit 256) }
     {
         Queue {
-            messages: [filler(); 256],
-            len: 0,
+            messages: ShortList::filled(filler()),
             limit: limit.clamp(1, 256),
         }
     }
@@ -29,13 +29,13 @@ impl Queue {
     pub fn waiting(&self) -> &[Message]
         ensures { result.now ≡ queued self.now }
     {
-        &self.messages[..self.len]
+        self.messages.items()
     }
 
     pub(super) fn has_room(&self) -> bool
         ensures { result ≡ nat_lt (length (queued self.now)) (limit_of self.now) }
     {
-        self.len < usize::from(self.limit)
+        self.waiting().len() < usize::from(self.limit)
     }
 
     // How many messages wait for the node.

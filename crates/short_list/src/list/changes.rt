@@ -1,0 +1,61 @@
+// Adding items to a list and taking them from it.
+ghost use Rattle.std.specs.Prelude.{◌≡◌, not, [], slice_get, filter};
+ghost use Rattle.std.specs.List.{remove};
+ghost use Rattle.short_list.specs.Lists.{listed, Pushed, Popped};
+
+use super::ShortList;
+
+impl<T: Copy, const ROOM: usize> ShortList<T, ROOM> {
+    // Adds an item at the end; false where there is no room for it.
+    pub fn push(&mut self, item: T) -> bool
+        ensures { Pushed self.old item result self.new }
+    {
+        if self.len == ROOM {
+            return false;
+        }
+        self.items[self.len] = item;
+        self.len += 1;
+        true
+    }
+
+    // Takes the newest away, if there is one.
+    pub fn pop(&mut self) -> Option<T>
+        ensures { Popped self.old result self.new }
+    {
+        self.len = self.len.checked_sub(1)?;
+        Some(self.items[self.len])
+    }
+
+    // Takes out the item at a place, if there is one; those behind it move up.
+    #[tactic(auto, using(crate::proofs::Shifting::moved_up, crate::proofs::Shifting::removed_past))]
+    pub fn take_out(&mut self, at: usize) -> Option<T>
+        ensures item { result ≡ slice_get (listed self.old) at }
+        ensures rest { listed self.new ≡ remove (listed self.old) at }
+    {
+        let item = *self.items().get(at)?;
+        self.items.copy_within(at + 1..self.len, at);
+        self.len -= 1;
+        Some(item)
+    }
+
+    pub fn clear(&mut self)
+        ensures { listed self.new ≡ [] }
+    {
+        self.len = 0;
+    }
+}
+
+impl<T: Copy + PartialEq, const ROOM: usize> ShortList<T, ROOM> {
+    // Drops an item wherever it stands; the others stay in order.
+    pub fn remove(&mut self, item: T)
+        ensures { listed self.new ≡ filter (λ x. not (T.eq x item)) (listed self.old) }
+    {
+        let old = *self;
+        self.clear();
+        for here in old.items() {
+            if *here != item {
+                self.push(*here);
+            }
+        }
+    }
+}
