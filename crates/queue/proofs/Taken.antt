@@ -1,5 +1,5 @@
 -- What a queue gives, where number k of the lane of node n is taken out.
-use Rattle.std.proofs.Common.{◌≡◌, ℕ, suc, ◌≤◌, List, length, Some, None, sym, refl, ◌∙◌, arith}
+use Rattle.std.proofs.Common.{◌≡◌, ℕ, ◌≤◌, length, Some, None, sym, refl, ◌∙◌}
 use Rattle.std.specs.List.{slice_get, remove}
 use Rattle.std.proofs.lemmas.Option.{slice_get_past}
 use Rattle.model.specs.Channels.{Gives}

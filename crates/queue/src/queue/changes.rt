@@ -21,7 +21,7 @@ impl Queue {
         ensures choice { PutsLast self.old message result self.new }
     {
         ask(self.has_room(), Refusal::NoRoom)?;
-        self.push(message);
+        self.messages.push(message);
         Ok(())
     }
 
@@ -50,15 +50,6 @@ impl Queue {
     {
         let place = self.place(node, ahead)?;
         Some(self.remove(place))
-    }
-
-    // Adds a message at the end.
-    fn push(&mut self, message: Message)
-        requires { length (queued self.old) < limit_of self.old }
-        ensures waiting { queued self.new ≡ queued self.old ++ (message ∷ []) }
-        ensures room { limit_of self.new ≡ limit_of self.old }
-    {
-        self.messages.push(message);
     }
 
     // Takes out the message at a place; those behind it move up.
