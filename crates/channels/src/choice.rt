@@ -1,5 +1,5 @@
 // What sets a channel apart: how many messages can wait, and which of those for a node is given.
-ghost use Rattle.std.specs.Prelude.{◌≡◌, ℕ, ◌%◌, ◌≤◌, length};
+ghost use Rattle.std.specs.Prelude.{ℕ, ◌%◌, ◌≤◌, length};
 ghost use Rattle.std.proofs.Common.{lit≤};
 ghost use Rattle.model.specs.Channels.{Gives};
 ghost use Rattle.queue.specs.Queues.{queued, limit_of, lanes, Given};

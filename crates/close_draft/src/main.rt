@@ -9,10 +9,7 @@ use last_heap::LastHeap;
 use next_heap::NextHeap;
 
 fn main(rt: HostRuntime) -> anyhow::Result<()> {
-    tell(&rt)
-}
-
-fn tell(rt: &HostRuntime) -> anyhow::Result<()> {
+    let rt = &rt;
     println!(rt; "One host closes a draft. Its heap makes the next free cell, going round.\n")?;
     story::close_draft(rt, &mut NextHeap::new())?;
     println!(rt; "\nThe same on a heap that makes the cell that was freed last.\n")?;

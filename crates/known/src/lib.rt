@@ -1,4 +1,4 @@
-// Values that are known of the parts, in one list.
+// Values that are known of the parts, each under its name.
 #![tactic(auto)]
 
 mod filling;

@@ -1,4 +1,4 @@
-// The list, which grows with the parts.
+// The values, which grow with the parts.
 ghost use Rattle.std.specs.Prelude.{◌≡◌};
 ghost use Rattle.known.specs.Known.{known_outcomes};
 

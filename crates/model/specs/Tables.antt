@@ -1,6 +1,7 @@
 -- Tables are functions: one with a value changed, the sum of one, the lowest number that passes a test.
 -- Nothing here is about cells.
-use Rattle.std.specs.Prelude.{ℕ, zero, suc, ◌+◌, Bool, true, false, cond, Some, None, Option, ◌==◌}
+use Rattle.std.specs.Prelude.{ℕ, zero, suc, ◌+◌, Bool, cond, Some, None, Option, ◌==◌}
+pub use Rattle.std.specs.Option.{is_some, option_or as or_else}
 
 -- f, but v at n
 abbrev pub put : {X : Type 0} → (ℕ → X) → ℕ → X → ℕ → X
@@ -18,15 +19,7 @@ unfoldable pub total : ℕ → (ℕ → ℕ) → ℕ
 total zero f = 0
 total (suc n) f = total n f + f n
 
-abbrev pub or_else : {X : Type 0} → Option X → Option X → Option X
-or_else (Some x) other = Some x
-or_else None other = other
-
 -- the lowest number below n that passes
 unfoldable pub first : ℕ → (ℕ → Bool) → Option ℕ
 first zero test = None
 first (suc n) test = or_else (first n test) (cond (test n) (Some n) None)
-
-abbrev pub is_some : {X : Type 0} → Option X → Bool
-is_some None = false
-is_some (Some x) = true

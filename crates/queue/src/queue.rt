@@ -8,6 +8,7 @@ use short_list::ShortList;
 #[derive(Clone, Copy)]
 pub struct Queue {
     messages: ShortList<Message, 256>,
+    // a value and no const parameter, since a caller may give it at run time
     limit: u16,
     ghost short: { length (listed messages) ≤ limit },
     ghost some: { 1 ≤ limit },

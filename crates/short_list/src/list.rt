@@ -3,14 +3,15 @@ ghost use Rattle.std.specs.Prelude.{◌≡◌, ◌≤◌, ⊤};
 
 use std::alloc::AllocError;
 
+#[derive(Copy)]
 pub struct ShortList<T, const ROOM: usize> {
-    // an array and a length: the core allocates nothing, and heaps and channels are Copy, which an ArrayVec is not
+    // an array and a length: the core allocates nothing, and heaps and channels may not cease to be Copy, which an ArrayVec is not
     items: [T; ROOM],
     len: usize,
     ghost short: { len ≤ ROOM },
 }
 
-// A copy. Written out, since a derive clones item by item, which a ghost field forbids.
+// A copy. Written out: the check derives no Clone for a generic struct with a ghost field.
 impl<T: Copy, const ROOM: usize> Clone for ShortList<T, ROOM> {
     ghost is_clone = { λ x y. y ≡ x };
 
@@ -20,8 +21,6 @@ impl<T: Copy, const ROOM: usize> Clone for ShortList<T, ROOM> {
         Ok(*self)
     }
 }
-
-impl<T: Copy, const ROOM: usize> Copy for ShortList<T, ROOM> {}
 
 mod changes;
 mod reads;

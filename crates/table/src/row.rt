@@ -7,6 +7,7 @@ use cell_set::CellSet;
 
 #[derive(Clone, Copy)]
 pub(crate) struct Row {
+    // sets beside the slots, and no colour in each cell: a reclaim and the next free cell are then a few word operations
     free: CellSet,
     black: CellSet,
     grey: CellSet,

@@ -1,4 +1,4 @@
-// The slots of one cell.
+// The slots of one cell. A struct of its own, since the prover knows the length of an array that is a field, not of one in an array.
 ghost use Rattle.std.specs.Prelude.{◌≡◌, None, slice_index_or, slice_set};
 ghost use Rattle.model.specs.Cells.{empty_slots};
 ghost use Rattle.table.specs.Rows.{four};

@@ -1,4 +1,4 @@
-// The cells of sixteen nodes: a row of cells for each.
+// The cells of sixteen nodes: a row of cells for each. Node and cell are two numbers here too, since a Reference would ask of a caller what a call refuses.
 mod reading;
 mod writing;
 

@@ -1,5 +1,5 @@
 // Adding messages to a queue and taking them from it.
-ghost use Rattle.std.specs.Prelude.{◌≡◌, ◌%◌, ◌<◌, ◌≤◌, [], ◌∷◌, ◌++◌, length, Some};
+ghost use Rattle.std.specs.Prelude.{◌≡◌, ◌%◌, ◌<◌, ◌≤◌, length, Some};
 ghost use Rattle.std.specs.List.{slice_get, remove};
 ghost use Rattle.model.specs.Channels.{Cleared, Puts, Gives};
 ghost use Rattle.queue.specs.Queues.{queued, limit_of, lanes, PutsLast, Reaches, Given};

@@ -6,7 +6,7 @@ ghost use Rattle.short_list.specs.Lists.{listed, Pushed, Popped};
 use super::ShortList;
 
 impl<T: Copy, const ROOM: usize> ShortList<T, ROOM> {
-    // Adds an item at the end; false where there is no room for it.
+    // Adds an item at the end; false where there is no room for it. A bool, as a set's `insert` has: an error would have nothing to tell.
     pub fn push(&mut self, item: T) -> bool
         ensures { Pushed self.old item result self.new }
     {
