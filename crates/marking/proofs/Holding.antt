@@ -27,5 +27,6 @@ module _ (n : ℕ) (roots : List Reference) (before : Cells) (i : ℕ) (middle :
   pub holding_more : (after : Cells) → Darkened (λ c. Names n c x) n middle after → Shaded (λ c. Names n c x) n middle after → Holding n roots (i + 1) before after
   holding_more = shading_more (Held n roots) (Held n (take i roots)) n before middle so_far (λ c. Names n c x) among (Held n (take (i + 1) roots)) before_or_at
 
-  pub holding_stops : Unused (λ c. Names n c x) n middle → Unused (Held n roots) n before
+  -- one more root names a cell that is not in use
+  pub holding_stops : (after : Cells) → Darkened (λ c. Names n c x) n middle after → Unused (λ c. Names n c x) n middle → Darkened (Held n roots) n before after × Unused (Held n roots) n before
   holding_stops = shading_stops (Held n roots) (Held n (take i roots)) n before middle so_far (λ c. Names n c x) among

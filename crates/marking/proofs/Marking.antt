@@ -1,16 +1,19 @@
 -- Marking under way: what it keeps from scan to scan, and what that says once no cell is grey.
 -- A scan leaves fewer cells that are not black.
-use Rattle.std.proofs.Common.{◌≡◌, ℕ, ◌<◌, true, false, not, List, Some, None, sym, inl, inr, ⊎_elim, arith}
+use Rattle.std.proofs.Common.{◌≡◌, ℕ, ◌<◌, true, false, not, List, Some, None, refl, sym, inl, inr, ⊎_elim, arith}
 use Rattle.model.specs.Tables.{one, total}
 use Rattle.model.specs.Cells.{Cells, is_black}
 use Rattle.model.specs.Heaps.{GreyCell}
+use Rattle.model.specs.Refusals.{number}
 use Rattle.model.specs.declared.reference.Reference.{Reference}
+use Rattle.model.specs.declared.refusal.Refusal.{Refusal}
+use Rattle.model.specs.declared.refusal.Refusal.TheVariants.{NotInUse}
 use Rattle.marking.specs.Reached.{Held, Named, Around, Reached}
 use Rattle.marking.specs.Reached.Reached.{held, grey, slot}
 use Rattle.marking.specs.Darkened.{is_dark, Darkened}
 use Rattle.marking.specs.Shaded.{Scanned, Unused}
 use Rattle.cell_list.specs.Lists.{Once}
-use Rattle.marking.specs.Marked.{has_turned, Marked}
+use Rattle.marking.specs.Marked.{has_turned, Marked, Unmarked}
 use Rattle.model.proofs.Totals.{total_lt}
 use Rattle.marking.proofs.Darkening.{named_same}
 
@@ -49,9 +52,6 @@ module _ (n : ℕ) (middle : Cells) (b : ℕ) (next : GreyCell middle n (Some b)
     around c (inl e) = rw e reached
     around c (inr name) = through c name
 
-    pub marking_stops : Unused (Named middle n b) n middle → Unused (Reached before n roots) n before
-    marking_stops unused = grind (arith, through)
-
     module _ (after : Cells) (step : Darkened (Around middle n b) n middle after) where
       pub marking_darkens : Darkened (Reached before n roots) n before after
       marking_darkens = grind (arith, around)
@@ -65,6 +65,10 @@ module _ (n : ℕ) (middle : Cells) (b : ℕ) (next : GreyCell middle n (Some b)
             (λ e. scanned.dark c (named_same n b c before middle (marking.darkened.slots b) (rw e at name)))
             (scanned.black k now);
       }
+
+      -- the scan meets a cell that is not in use
+      pub marking_stops : Unused (Named middle n b) n middle → Darkened (Reached before n roots) n before after × Unused (Reached before n roots) n before
+      marking_stops unused = (marking_darkens, grind (arith, through))
 
 -- what is held is reached
 pub held_unused : (n : ℕ) (roots : List Reference) (cells : Cells) → Unused (Held n roots) n cells → Unused (Reached cells n roots) n cells
@@ -93,3 +97,8 @@ module _ (n : ℕ) (roots : List Reference) (before after : Cells) (marking : Ma
     used = λ c r. grind (arith, reached_low n roots before c r, marking.darkened.used c, black c r);
     each = once;
   }
+
+-- a refusal that bears the number of a cell not in use says that a reached cell is not
+pub unmarked : (n : ℕ) (roots : List Reference) (before : Cells) (stays : Type 0) (why : Refusal) → number why ≡ 15 → n < 16 → Unused (Reached before n roots) n before → Unmarked why n roots before stays
+unmarked n roots before stays NotInUse e near unused = inr (refl, near, unused)
+unmarked n roots before stays why e near unused = absurd (omega arith)

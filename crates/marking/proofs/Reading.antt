@@ -1,6 +1,6 @@
 -- Reading the slots of a cell one after another: what the slots below i name is dark by now.
 -- A cell has four slots, so those below 4 are all.
-use Rattle.std.proofs.Common.{◌≡◌, ℕ, ◌+◌, ◌<◌, ◌≤◌, ◌⊎◌, length, get_or, Some, None, Option, inl, inr, ⊎_elim, arith}
+use Rattle.std.proofs.Common.{◌≡◌, ℕ, ◌+◌, ◌<◌, ◌≤◌, ◌⊎◌, length, get_or, Some, None, Option, sym, inl, inr, ⊎_elim, arith}
 use Rattle.std.proofs.lemmas.List.{get_or_past}
 use Rattle.std.proofs.lemmas.Bool.{cases_eq}
 use Rattle.model.specs.Cells.{Cells, slots_of}
@@ -26,13 +26,17 @@ module _ (n b : ℕ) (before : Cells) (i : ℕ) (middle : Cells) (so_far : Readi
     low = grind (arith, get_or_past (slots_of (before n b)) name.slot None);
   }
 
-  pub reading_ends : length (slots_of (before n b)) ≤ i → Shaded (Named before n b) n before middle
-  reading_ends past = (shading_so (Named before n b) (NamedBelow before n b i) n before middle so_far (Named before n b) (all_below past)).shaded
+  pub reading_ends : length (slots_of (before n b)) ≤ i → Shading (Named before n b) (Named before n b) n before middle
+  reading_ends past = shading_so (Named before n b) (NamedBelow before n b i) n before middle so_far (Named before n b) (all_below past)
+
+  -- what was read of slot i is what it held before
+  holds : (what : Option Reference) → what ≡ get_or (slots_of (middle n b)) i None → get_or (slots_of (before n b)) i None ≡ what
+  holds what read = cc (so_far.darkened.slots b)
 
   -- slot i was read
   module _ (what : Option Reference) (read : get_or (slots_of (middle n b)) i None ≡ what) where
     held : get_or (slots_of (before n b)) i None ≡ what
-    held = cc (so_far.darkened.slots b)
+    held = holds what (sym read)
 
     -- a slot below i + 1 is slot i or one below it
     at_or_below : (c : ℕ) → NamedBelow before n b (i + 1) c → ((x : Reference) × (what ≡ Some x) × Names n c x) ⊎ NamedBelow before n b i c
@@ -52,5 +56,6 @@ module _ (n b : ℕ) (before : Cells) (i : ℕ) (middle : Cells) (so_far : Readi
     pub reading_more : (after : Cells) → Darkened (λ c. Names n c x) n middle after → Shaded (λ c. Names n c x) n middle after → Reading n b (i + 1) before after
     reading_more = shading_more (Named before n b) (NamedBelow before n b i) n before middle so_far (λ c. Names n c x) among (NamedBelow before n b (i + 1)) this_or_below
 
-    pub reading_stops : Unused (λ c. Names n c x) n middle → Unused (Named before n b) n before
+    -- slot i names a cell that is not in use
+    pub reading_stops : (after : Cells) → Darkened (λ c. Names n c x) n middle after → Unused (λ c. Names n c x) n middle → Darkened (Named before n b) n before after × Unused (Named before n b) n before
     reading_stops = shading_stops (Named before n b) (NamedBelow before n b i) n before middle so_far (λ c. Names n c x) among

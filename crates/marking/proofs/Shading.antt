@@ -20,5 +20,9 @@ module _ (Which Done : ℕ → Type 0) (n : ℕ) (before middle : Cells) (so_far
     shading_more More cases after step next = grind arith
 
     -- the next step meets a cell that is not in use
-    pub shading_stops : Unused Next n middle → Unused Which n before
-    shading_stops unused = grind arith
+    pub shading_unused : Unused Next n middle → Unused Which n before
+    shading_unused unused = grind arith
+
+    -- it does so after it has darkened cells, all of them among the cells which
+    pub shading_stops : (after : Cells) → Darkened Next n middle after → Unused Next n middle → Darkened Which n before after × Unused Which n before
+    shading_stops after step unused = (grind arith, shading_unused unused)

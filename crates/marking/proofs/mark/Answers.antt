@@ -16,7 +16,7 @@ loop-cell-preserved g c =
 
 pub returns-in_err-scan-clause-marks : goal.returns-in_err-scan-clause-marks
 returns-in_err-scan-clause-marks g c =
-    grind (arith, marking_stops _ _ _ (rw c.in-Some.is at c.in_ok-cell.ensures.1) _ _ c.loop-cell.invariant.marking c.in_err-scan.ensures.scans.1)
+    grind (arith, marking_stops _ _ _ (rw c.in-Some.is at c.in_ok-cell.ensures.1) _ _ c.loop-cell.invariant.marking _ c.scan.ensures.darkens c.in_err-scan.ensures.scans.1)
 
 pub returns-clause-marks : goal.returns-clause-marks
 returns-clause-marks g c = marking_ends _ _ _ _ c.loop-cell.invariant.marking (rw c.in_default.is at c.in_ok-cell.ensures.1) _ c.loop-cell.invariant.listing.once (search rules)

@@ -12,7 +12,7 @@ loop-slot-preserved g c =
 
 pub returns-in_err-shade_own-clause-shades : goal.returns-in_err-shade_own-clause-shades
 returns-in_err-shade_own-clause-shades g c =
-    grind (arith, reading_stops _ _ _ _ _ c.loop-slot.invariant _ (sym c.in_ok-reference.ensures.1 ∙ c.in-Some.is) c.in_err-shade_own.ensures.shades.1)
+    grind (arith, reading_stops _ _ _ _ _ c.loop-slot.invariant _ (sym c.in_ok-reference.ensures.1 ∙ c.in-Some.is) _ c.shade_own.ensures.darkens c.in_err-shade_own.ensures.shades.1)
 
 pub returns-clause-shades : goal.returns-clause-shades
-returns-clause-shades g c = reading_ends _ _ _ _ _ c.loop-slot.invariant (grind (arith, g.met.H.Heap.sized c.args.heap.now c.args.node c.args.cell))
+returns-clause-shades g c = (reading_ends _ _ _ _ _ c.loop-slot.invariant (grind (arith, g.met.H.Heap.sized c.args.heap.now c.args.node c.args.cell))).shaded
