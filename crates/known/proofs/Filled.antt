@@ -1,14 +1,14 @@
 -- Each make takes one cell more of a node into use, until all 64 are.
-use Rattle.std.proofs.Common.{◌≡◌, ℕ, ◌+◌, ◌<◌, ◌≤◌, false, None, Ok, Err, Some, arith}
+use Rattle.std.proofs.Common.{◌≡◌, ℕ, ◌+◌, ◌<◌, ◌≤◌, min, true, false, ltb, None, Ok, Err, Some, Result, arith}
 use Rattle.std.proofs.lemmas.Bool.Decides.{nat_tests}
 use Rattle.model.specs.Refusals.{first_no}
 use Rattle.model.specs.Tables.{one}
 use Rattle.model.specs.Cells.{Cells, all_free, is_free, is_used}
-use Rattle.model.specs.Heaps.{some_free, make_asks, Made}
+use Rattle.model.specs.Heaps.{some_free, make_asks, Made, Makes}
 use Rattle.model.specs.declared.colour.Colour.{Colour}
 use Rattle.model.specs.declared.refusal.Refusal.{Refusal}
-use Rattle.model.proofs.Firsts.{first_is_some}
-use Rattle.model.proofs.Totals.{total_same, total_all, total_bound, total_change}
+use Rattle.model.proofs.Firsts.{first_is_some, first_found}
+use Rattle.model.proofs.Totals.{total_same, total_all, total_bound, total_change, total_lt}
 use Rattle.known.specs.Filling.{used_count, after_makes}
 
 at_most_64 : (cells : Cells) (n : ℕ) → used_count cells n ≤ 64
@@ -18,6 +18,14 @@ at_most_64 cells n = omega (arith, total_bound 64 1 (λ c. one (is_used (cells n
 full : (cells : Cells) (n : ℕ) → some_free cells n ≡ false → used_count cells n ≡ 64
 full cells n none = omega (arith, total_all 64 1, total_same 64 (λ c. one (is_used (cells n c))) (λ c. 1) (λ c h. grind (arith, first_is_some 64 (λ j. is_free (cells n j)) c h)))
 
+-- some cell is free: fewer than 64 are in use
+fewer : (cells : Cells) (n c : ℕ) → c < 64 → is_free (cells n c) ≡ true → used_count cells n < 64
+fewer cells n c low unused = omega (arith, total_all 64 1, total_lt 64 (λ j. one (is_used (cells n j))) (λ j. 1) c low (λ j h. grind arith) (grind arith))
+
+-- some cell is free exactly where fewer than 64 are in use
+pub room : (cells : Cells) (n : ℕ) → some_free cells n ≡ ltb (used_count cells n) 64
+room cells n = grind (arith, nat_tests, full cells n, fewer cells n, first_found 64 (λ c. is_free (cells n c)))
+
 -- after k makes on node n, which were all granted
 pub record Filled (cells : Cells) (n k : ℕ) : Type 0 where
   pub count : used_count cells n ≡ k
@@ -26,13 +34,21 @@ pub record Filled (cells : Cells) (n k : ℕ) : Type 0 where
 pub none_filled : (n : ℕ) → Filled all_free n 0
 none_filled n = record { count = omega (arith, total_all 64 0); near = λ h. absurd (omega arith) }
 
-pub one_more : (before after : Cells) (n k c : ℕ) (colour : Colour) → Filled before n k → first_no (make_asks before n) ≡ None → Made before n colour after c → Filled after n (k + 1)
-one_more before after n k c colour filled asked made = record {
-  count =
-      let there = total_change 64 (λ j. one (is_used (before n j))) (λ j. one (is_used (after n j))) c made.low (λ j off. grind (arith, nat_tests, made.cells)) in
-      grind (arith, nat_tests, filled.count, made.cells, made.was_free);
-  near = λ h. grind (arith, nat_tests, asked);
-}
+-- one make, granted or not
+pub one_more : {S : Type 0} (cells : S → Cells) (before : S) (n : ℕ) (colour : Colour) (r : Result ℕ Refusal) (after : S)
+    → Makes cells before n colour r after → n < 16 → used_count (cells after) n ≡ min (used_count (cells before) n + 1) 64
+one_more cells before n colour (Ok c) after (asked, made) near =
+    let there = total_change 64 (λ j. one (is_used (cells before n j))) (λ j. one (is_used (cells after n j))) c made.low (λ j off. grind (arith, nat_tests, made.cells)) in
+    grind (arith, nat_tests, made.cells, made.was_free, at_most_64 (cells after) n)
+one_more cells before n colour (Err why) after (asked, stays) near = grind (arith, nat_tests, full (cells before) n, asked, stays)
+
+pub filled_more : (before after : Cells) (n k c : ℕ) (colour : Colour) → Filled before n k → first_no (make_asks before n) ≡ None → Made before n colour after c → Filled after n (k + 1)
+filled_more before after n k c colour filled asked made =
+    let near : n < 16 = grind (arith, nat_tests, asked) in
+    record {
+      count = grind (arith, nat_tests, filled.count, asked, room before n, one_more (λ (cells : Cells). cells) before n colour (Ok c) after (asked, made) near);
+      near = λ h. near;
+    }
 
 -- count makes and one more, all granted
 pub all_granted : (cells : Cells) (n count : ℕ) → Filled cells n (count + 1) → Ok tt ≡ after_makes n count

@@ -3,6 +3,7 @@
 use Rattle.std.specs.Prelude.{[], ◌∷◌, Ok, Err}
 use Rattle.model.specs.declared.refusal.Refusal.TheVariants.{NoFreeCell}
 use Rattle.known.specs.declared.values.KnownValues.{KnownValues}
+pub use Rattle.known.specs.Filling.{used_count, after_makes}
 
 abbrev pub known_outcomes : KnownValues
 known_outcomes = record {
