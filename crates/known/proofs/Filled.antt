@@ -1,5 +1,5 @@
 -- Each make takes one cell more of a node into use, until all 64 are.
-use Rattle.std.proofs.Common.{◌≡◌, ℕ, ◌+◌, ◌<◌, ◌≤◌, min, true, false, ltb, None, Ok, Err, Some, Result, arith}
+use Rattle.std.proofs.Common.{◌≡◌, ℕ, ◌+◌, ◌<◌, ◌≤◌, min, true, false, ltb, None, Some, Ok, Err, Option, Result, arith}
 use Rattle.std.proofs.lemmas.Bool.Decides.{nat_tests}
 use Rattle.model.specs.Refusals.{first_no}
 use Rattle.model.specs.Tables.{one}
@@ -50,10 +50,19 @@ filled_more before after n k c colour filled asked made =
       near = λ h. near;
     }
 
+-- what comes of a call, by the first question that is answered no
+abbrev pub outcome : Option Refusal → Result Unit Refusal
+outcome None = Ok tt
+outcome (Some why) = Err why
+
+-- what comes of one make more, where as many cells are in use as count makes leave
+pub one_make_more : (cells : Cells) (n count : ℕ) → (n < 16 → used_count cells n ≡ min count 64) → outcome (first_no (make_asks cells n)) ≡ after_makes n count
+one_make_more cells n count filled = grind (arith, nat_tests, room cells n, filled)
+
 -- count makes and one more, all granted
 pub all_granted : (cells : Cells) (n count : ℕ) → Filled cells n (count + 1) → Ok tt ≡ after_makes n count
 all_granted cells n count filled = grind (arith, nat_tests, filled.near (omega arith), filled.count, at_most_64 cells n)
 
 -- a make is refused after k of them: one make more than count, which is no less, is refused for the same reason
 pub refused : (cells : Cells) (n k count : ℕ) (why : Refusal) → Filled cells n k → k ≤ count → first_no (make_asks cells n) ≡ Some why → Err why ≡ after_makes n count
-refused cells n k count why filled most asked = grind (arith, nat_tests, filled.count, full cells n, asked)
+refused cells n k count why filled most asked = rw asked at (one_make_more cells n count (λ near. grind (arith, nat_tests, filled.count, full cells n, asked)))
