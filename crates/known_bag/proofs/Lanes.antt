@@ -5,5 +5,5 @@ use Rattle.model.specs.declared.message.Message.{Message}
 use Rattle.queue.specs.Queues.{lanes, lanes_with}
 use Rattle.queue.specs.declared.queue.Queue.{Queue}
 
-pub one_more : (before after : Queue) (m : Message) (n : ℕ) → lanes after ≡ lanes_with m (lanes before) → m.to ≡ n → lanes after n ≡ lanes before n ++ (m ∷ [])
-one_more before after m n put to = grind (arith, nat_tests, ap (λ f. f n) put)
+pub lane_more : (before after : Queue) (m : Message) (n : ℕ) → lanes after ≡ lanes_with m (lanes before) → m.to ≡ n → lanes after n ≡ lanes before n ++ (m ∷ [])
+lane_more before after m n put to = grind (arith, nat_tests, ap (λ f. f n) put)

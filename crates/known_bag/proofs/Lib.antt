@@ -1,1 +1,2 @@
 mod Lanes
+mod Picked

@@ -5,7 +5,7 @@ use channels::Bag;
 use model::{Channel, Kind, Message, Refusal};
 
 // An Open and then a Sweep wait for node 1: which of them does pick 3 give?
-#[tactic(auto, using(crate::proofs::Lanes::one_more))]
+#[tactic(auto, using(crate::proofs::Picked::later_of_two))]
 pub fn third_of_two() -> Result<Option<Kind>, Refusal>
     ensures { result ≡ Ok (Some Kind.Sweep) }
 {
