@@ -9,7 +9,7 @@ use Rattle.model.specs.declared.reference.Reference.{Reference}
 use Rattle.marking.specs.Reached.{Held}
 use Rattle.marking.specs.Darkened.{Darkened}
 use Rattle.marking.specs.Shaded.{Shaded, Unused}
-use Rattle.marking.proofs.Shading.{Shading, shading_more, shading_stops}
+use Rattle.marking.proofs.Shading.{Shading, shading_more, shading_unused, shading_stops}
 
 abbrev pub Holding : ℕ → List Reference → ℕ → Cells → Cells → Type 0
 Holding n roots i before after = Shading (Held n roots) (Held n (take i roots)) n before after
@@ -28,5 +28,9 @@ module _ (n : ℕ) (roots : List Reference) (before : Cells) (i : ℕ) (middle :
   holding_more = shading_more (Held n roots) (Held n (take i roots)) n before middle so_far (λ c. Names n c x) among (Held n (take (i + 1) roots)) before_or_at
 
   -- one more root names a cell that is not in use
+  pub holding_unused : Unused (λ c. Names n c x) n middle → Unused (Held n roots) n before
+  holding_unused = shading_unused (Held n roots) (Held n (take i roots)) n before middle so_far (λ c. Names n c x) among
+
+  -- and what has darkened by then is all held
   pub holding_stops : (after : Cells) → Darkened (λ c. Names n c x) n middle after → Unused (λ c. Names n c x) n middle → Darkened (Held n roots) n before after × Unused (Held n roots) n before
   holding_stops = shading_stops (Held n roots) (Held n (take i roots)) n before middle so_far (λ c. Names n c x) among

@@ -23,6 +23,6 @@ module _ (Which Done : ℕ → Type 0) (n : ℕ) (before middle : Cells) (so_far
     pub shading_unused : Unused Next n middle → Unused Which n before
     shading_unused unused = grind arith
 
-    -- it does so after it has darkened cells, all of them among the cells which
+    -- and what has darkened by then is all among the cells
     pub shading_stops : (after : Cells) → Darkened Next n middle after → Unused Next n middle → Darkened Which n before after × Unused Which n before
     shading_stops after step unused = (grind arith, shading_unused unused)

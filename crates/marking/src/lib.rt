@@ -27,7 +27,7 @@ fn shade_own<H: Heap>(heap: &mut H, node: u8, reference: Reference) -> Result<()
 }
 
 // Shades what is held.
-#[tactic(auto, using(crate::proofs::Holding::holding_stops))]
+#[tactic(auto, using(crate::proofs::Holding::holding_unused))]
 fn shade_roots<H: Heap>(heap: &mut H, node: u8, roots: &[Reference]) -> Result<(), Refusal>
     ensures darkens { Darkened (Held node roots.now) node (H.cells heap.old) (H.cells heap.new) }
     ensures shades { Shades (Held node roots.now) node (H.cells heap.old) result (H.cells heap.new) }
