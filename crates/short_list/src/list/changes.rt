@@ -1,5 +1,5 @@
 // Adding items to a list and taking them from it.
-ghost use Rattle.std.specs.Prelude.{◌≡◌, not, [], slice_get, filter};
+ghost use Rattle.std.specs.Prelude.{◌≡◌, not, [], take, slice_get, filter};
 ghost use Rattle.std.specs.List.{remove};
 ghost use Rattle.short_list.specs.Lists.{listed, Pushed, Popped};
 
@@ -38,6 +38,13 @@ impl<T: Copy, const ROOM: usize> ShortList<T, ROOM> {
         Some(item)
     }
 
+    // Drops all but the oldest `len`; a list that is no longer than that stays.
+    pub fn truncate(&mut self, len: usize)
+        ensures { listed self.new ≡ take len (listed self.old) }
+    {
+        self.len = self.len.min(len);
+    }
+
     pub fn clear(&mut self)
         ensures { listed self.new ≡ [] }
     {
@@ -50,12 +57,14 @@ impl<T: Copy + PartialEq, const ROOM: usize> ShortList<T, ROOM> {
     pub fn remove(&mut self, item: T)
         ensures { listed self.new ≡ filter (λ x. not (T.eq x item)) (listed self.old) }
     {
-        let old = *self;
-        self.clear();
-        for here in old.items() {
-            if *here != item {
-                self.push(*here);
+        let mut left = 0;
+        for at in 0..self.len {
+            let here = self.items[at];
+            if here != item {
+                self.items[left] = here;
+                left += 1;
             }
         }
+        self.len = left;
     }
 }

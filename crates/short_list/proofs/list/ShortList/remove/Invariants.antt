@@ -1,6 +1,6 @@
-use Rattle.std.proofs.Common.{◌≡◌, ◌≤◌, not, length, take, filter}
-use Rattle.short_list.specs.Lists.{listed}
+use Rattle.std.proofs.Common.{not}
+use Rattle.std.proofs.lemmas.List.Filters.{FiltersInPlace}
 use Rattle.short_list.proofs.list.ShortList.remove.Given as goal
 
-abbrev pub invariant-loop-here : goal.invariant-loop-here
-invariant-loop-here g l = (listed l.self ≡ filter (λ x. not (g.T.PartialEq.eq x l.item)) (take l.here-index l.here-items)) × (length (listed l.self) ≤ l.here-index)
+abbrev pub invariant-loop-at : goal.invariant-loop-at
+invariant-loop-at g l = FiltersInPlace (λ x. not (g.T.PartialEq.eq x l.item)) l.initial.self.items l.self.items l.left l.at
