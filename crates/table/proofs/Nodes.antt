@@ -1,5 +1,5 @@
 -- The cells of a table by its rows.
-use Rattle.std.proofs.Common.{◌≡◌, ℕ, ◌<◌, List, length, get_or, set, replicate, arith}
+use Rattle.std.proofs.Common.{◌≡◌, ℕ, ◌+◌, ◌<◌, ◌≤◌, List, length, get_or, set, replicate, arith}
 use Rattle.std.proofs.lemmas.List.{length-set, length-replicate, get_or-set_same, get_or-set_other, get_or-replicate, set-get_or}
 use mathlib.Core.Path.{fun_ext}
 use Rattle.std.proofs.lemmas.Bool.Decides.{nat_tests}
@@ -38,3 +38,20 @@ pub ruleset rows = (row_at, row_put, set-get_or)
 pub all_freed : (r : Row) → ((c : ℕ) → row_cells r c ≡ free) → rows_cells (replicate 16 r) ≡ all_free
 unfolding rows_cells
 all_freed r each = fun_ext (λ n. fun_ext (λ c. grind (arith, slice_get-get_or (replicate 16 r) n r, slice_get_past (replicate 16 r) n, get_or-replicate 16 n r r, each c)))
+
+-- the rows below i have free cells alone, of sixteen
+pub record Cleared (rows : List Row) (i : ℕ) : Type 0 where
+  pub wide : length rows ≡ 16
+  pub freed : (n : ℕ) → n < i → (c : ℕ) → rows_cells rows n c ≡ free
+
+-- and row i is cleared
+pub cleared_more : (rows : List Row) (i j : ℕ) (r : Row) → Cleared rows i → i < 16 → j ≡ i + 1 → ((c : ℕ) → row_cells r c ≡ free) → Cleared (set rows i r) j
+cleared_more rows i j r old near next freed = record {
+  wide = omega (arith, old.wide, length-set rows i r);
+  freed = λ n low c. grind (arith, nat_tests, row_put rows i r, old.wide, old.freed n, freed c);
+}
+
+-- where all have, the table has
+pub all_cleared : (rows : List Row) (i : ℕ) → Cleared rows i → 16 ≤ i → rows_cells rows ≡ all_free
+unfolding rows_cells
+all_cleared rows i all past = fun_ext (λ n. fun_ext (λ c. grind (arith, nat_tests, slice_get_past rows n, all.wide, all.freed n)))

@@ -24,6 +24,14 @@ impl Row {
         }
     }
 
+    // Frees every cell: what its marks and slots say of a free cell is not read.
+    #[tactic(auto, unfolding(crate::specs::Rows::row_cells))]
+    pub(crate) fn clear(&mut self)
+        ensures { (c : ℕ) → row_cells self.new c ≡ free }
+    {
+        self.free = CellSet::all();
+    }
+
     // Fills or empties a slot.
     #[tactic(auto, using(crate::proofs::Cells::writes))]
     pub(crate) fn set_slot(

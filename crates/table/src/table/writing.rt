@@ -23,10 +23,13 @@ impl Table {
     }
 
     // Frees every cell.
+    #[tactic(auto, using(crate::proofs::Nodes::cleared_more, crate::proofs::Nodes::all_cleared))]
     pub fn clear(&mut self)
         ensures { cells_of self.new ≡ all_free }
     {
-        *self = Table::new();
+        for node in 0..16 {
+            self.rows[node].clear();
+        }
     }
 
     // Fills or empties a slot.
