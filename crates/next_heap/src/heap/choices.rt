@@ -33,5 +33,5 @@ impl NextHeap {
 fn from_start(free: CellSet, start: u8) -> Option<u8>
     ensures { result ≡ or_else (first 64 (λ c. nat_le start c && has free c)) (first 64 (has free)) }
 {
-    free.lowest_from(start).or(free.lowest())
+    free.lowest_from(start).or_else(|| free.lowest())
 }
