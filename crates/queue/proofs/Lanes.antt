@@ -1,9 +1,10 @@
 -- The lanes of a list of messages, where one is added or taken out.
-use Rattle.std.proofs.Common.{◌≡◌, ℕ, zero, suc, ◌+◌, List, [], ◌∷◌, ◌++◌, length, Some, refl, arith}
+use Rattle.std.proofs.Common.{◌≡◌, ℕ, zero, suc, ◌+◌, ◌<◌, ◌≤◌, List, [], ◌∷◌, ◌++◌, length, get_or, take, Some, refl, sym, ap, ◌∙◌, arith}
 use Rattle.std.specs.List.{slice_get, remove}
 use Rattle.std.proofs.lemmas.Bool.Decides.{nat_tests}
 use Rattle.std.proofs.lemmas.List.Elements.{filter-append}
-use Rattle.std.proofs.lemmas.List.{append-nil}
+use Rattle.std.proofs.lemmas.List.Filters.{length-filter_more}
+use Rattle.std.proofs.lemmas.List.{append-nil, take_all}
 use Rattle.model.specs.Tables.{one}
 use Rattle.model.specs.Messages.{for, how_many, sum, same, Added}
 use Rattle.model.specs.declared.message.Message.{Message}
@@ -14,6 +15,14 @@ use Rattle.queue.specs.Queues.{lane, lanes_with}
 pub lane_length : (n : ℕ) (xs : List Message) → length (lane n xs) ≡ how_many (for n) xs
 lane_length n [] = refl
 lane_length n (x ∷ xs) = grind (arith, lane_length n xs)
+
+-- the lane of the first messages of a list, with one more
+pub lane_more : (n : ℕ) (xs : List Message) (i : ℕ) (m : Message) → i < length xs → m ≡ get_or xs i m → length (lane n (take (i + 1) xs)) ≡ length (lane n (take i xs)) + one (for n m)
+lane_more n xs i m within is = length-filter_more (for n) xs i m within ∙ ap (λ x. length (lane n (take i xs)) + one (for n x)) (sym is)
+
+-- and of all of them
+pub lane_whole : (n : ℕ) (xs : List Message) (i : ℕ) → length xs ≤ i → lane n (take i xs) ≡ lane n xs
+lane_whole n xs i past = ap (lane n) (take_all i xs past)
 
 -- a message of a lane is for its node
 pub lane_for : (n : ℕ) (xs : List Message) (k : ℕ) (m : Message) → slice_get (lane n xs) k ≡ Some m → m.to ≡ n

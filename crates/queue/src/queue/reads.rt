@@ -39,13 +39,17 @@ impl Queue {
     }
 
     // How many messages wait for the node.
+    #[tactic(auto, using(crate::proofs::Lanes::lane_more, crate::proofs::Lanes::lane_whole))]
     pub fn count(&self, node: u8) -> usize
         ensures { result ≡ length (lanes self.now node) }
     {
-        self.waiting()
-            .iter()
-            .filter(|message| message.to() == node)
-            .count()
+        let mut count = 0;
+        for message in self.waiting() {
+            if message.to() == node {
+                count += 1;
+            }
+        }
+        count
     }
 
     // Where the message for the node stands that has `ahead` others for it before it.
