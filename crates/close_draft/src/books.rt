@@ -1,6 +1,8 @@
 // The cells of the host, as the story makes, links and lists them.
+ghost use Rattle.std.specs.Prelude.{◌<◌};
+
 use model::{Colour, Heap, Reference, Refusal};
-use std::alloc::Global;
+use short_list::ShortList;
 
 // The one host of this program.
 pub const HOST: u8 = 0;
@@ -15,11 +17,11 @@ pub struct Drafts {
     pub line: Reference,
 }
 
-// The cells in use, lowest first: those that are white, and the others.
-#[derive(Drop)]
+// The cells in use, lowest first: those that are white, and the others. Short lists, so that the story can't stop for want of memory.
+#[derive(Clone, Copy)]
 pub struct InUse {
-    pub white: Vec<Reference>,
-    pub marked: Vec<Reference>,
+    pub white: ShortList<Reference, 64>,
+    pub marked: ShortList<Reference, 64>,
 }
 
 // Makes a white cell.
@@ -51,27 +53,40 @@ pub fn enter<H: Heap>(heap: &mut H) -> Result<Drafts, Refusal> {
 }
 
 // What the slots of a cell name, lowest first.
-pub fn named<H: Heap>(alloc: Global, heap: &H, cell: Reference) -> anyhow::Result<Vec<Reference>> {
-    let mut names = Vec::new(alloc);
+pub fn named<H: Heap>(heap: &H, cell: Reference) -> Result<ShortList<Reference, 4>, Refusal> {
+    let mut names = ShortList::filled(cell);
     for slot in 0..4 {
         if let Some(name) = heap.slot(HOST, cell.cell(), slot)? {
-            names.push(name)?;
+            names.push(name);
         }
     }
     Ok(names)
 }
 
-pub fn in_use<H: Heap>(alloc: Global, heap: &H) -> anyhow::Result<InUse> {
-    let mut white = Vec::new(alloc);
-    let mut marked = Vec::new(alloc);
+pub fn in_use<H: Heap>(heap: &H) -> InUse {
+    let none = ShortList::filled(of_host(0));
+    let mut used = InUse {
+        white: none,
+        marked: none,
+    };
     for number in 0..64 {
-        let cell = Reference::new(HOST, number)?;
         match heap.colour(HOST, number) {
-            Ok(Colour::White) => white.push(cell)?,
-            Ok(Colour::Grey | Colour::Black) => marked.push(cell)?,
+            Ok(Colour::White) => {
+                used.white.push(of_host(number));
+            }
+            Ok(Colour::Grey | Colour::Black) => {
+                used.marked.push(of_host(number));
+            }
             // a free cell has no colour
             Err(_) => {}
         }
     }
-    Ok(InUse { white, marked })
+    used
+}
+
+// A cell of the host.
+pub fn of_host(number: u8) -> Reference
+    requires { number < 64 }
+{
+    Reference::new(HOST, number).unwrap()
 }

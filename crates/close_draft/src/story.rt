@@ -19,17 +19,16 @@ fn mark_from<H: Heap>(rt: &HostRuntime, heap: &mut H, root: Reference) -> anyhow
     println!(rt; "Marking starts at {root} and goes through all that it leads to:")?;
     for number in mark(heap, HOST, &[root])?.items() {
         let cell = Reference::new(HOST, *number)?;
-        let names = named(rt.alloc(), heap, cell)?;
-        telling::read(rt, cell, names.as_slice())?;
+        telling::read(rt, cell, named(heap, cell)?.items())?;
     }
     Ok(())
 }
 
 fn reclaim<H: Heap>(rt: &HostRuntime, heap: &mut H) -> anyhow::Result<()> {
-    let InUse { white, marked } = in_use(rt.alloc(), heap)?;
+    let InUse { white, marked } = in_use(heap);
     let Tally { freed, kept } = heap.reclaim(HOST)?;
     println!(rt; "What is still white is reclaimed: {freed} freed, {kept} kept.")?;
-    telling::cells(rt, "  freed:", white.as_slice())?;
-    telling::cells(rt, "  kept:", marked.as_slice())?;
+    telling::cells(rt, "  freed:", white.items())?;
+    telling::cells(rt, "  kept:", marked.items())?;
     Ok(())
 }
