@@ -9,7 +9,7 @@ use Rattle.short_list.proofs.Shifting.{removed_past}
 use Rattle.queue.specs.Queues.{queued, limit_of, lanes, place_of, Reaches, Given}
 use Rattle.queue.specs.declared.queue.Queue.{Queue}
 use Rattle.queue.proofs.Lanes.{lane_length, lane_for, sum_without, lane_without}
-use Rattle.queue.proofs.Places.{past, which, left}
+use Rattle.queue.proofs.Places.{which, left}
 
 module _ (before : Queue) (n k : ℕ) where
   -- number k is m, which stands at a place
@@ -29,13 +29,10 @@ module _ (before : Queue) (n k : ℕ) where
     pub gives_some : limit_of after ≡ limit_of before → Gives queued limit_of before n (Some m) after
     gives_some room = record { addressed = for_node; removed = λ x. rw rest (sum_without m _ (queued before) at is); room = room }
 
-  -- there is none
-  module _ (none : place_of n (queued before) k ≡ None) where
-    short : length (lanes before n) ≤ k
-    short = past n (queued before) k none
-
+  -- the lane is no longer, so that there is none
+  module _ (past : length (lanes before n) ≤ k) where
     pub given_none : Given before n k None before
-    given_none = record { which = sym (slice_get_past (lanes before n) k short); left = is_put _ _ n _ (sym (removed_past (lanes before n) k short)) (λ j off. refl) }
+    given_none = record { which = sym (slice_get_past (lanes before n) k past); left = is_put _ _ n _ (sym (removed_past (lanes before n) k past)) (λ j off. refl) }
 
     pub gives_none : Reaches (lanes before n) k → Gives queued limit_of before n None before
-    gives_none reaches = (sym (lane_length n (queued before)) ∙ reaches short, refl)
+    gives_none reaches = (sym (lane_length n (queued before)) ∙ reaches past, refl)
