@@ -2,7 +2,7 @@
 use Rattle.std.proofs.Common.{◌≡◌, ℕ, ◌<◌, true, false, cond, ◌&&◌, ltb, List, [], length, refl, ap, ◌∙◌, arith}
 use Rattle.std.proofs.lemmas.Bool.Decides.{nat_tests}
 use Rattle.model.specs.Tables.{put₂}
-use Rattle.model.specs.Cells.{empty_slots, is_free, is_grey}
+use Rattle.model.specs.Cells.{Cells, empty_slots, is_free, is_grey}
 use Rattle.model.specs.Cells.Cell.{free, used}
 use Rattle.model.specs.Heaps.{some_free, Made}
 use Rattle.model.specs.declared.colour.Colour.{Colour}
@@ -19,9 +19,9 @@ use Rattle.last_heap.specs.declared.heap.node.Node.{Node}
 use Rattle.last_heap.specs.declared.heap.stacks.Stacks.{Stacks}
 use Rattle.last_heap.proofs.Stacked.{pops, has_room, top_passes, none_passes}
 
-pub none_free : (heap : LastHeap) (node : Node) → frees heap node.number ≡ [] → some_free (last_cells heap) node.number ≡ false
-none_free heap node none =
-    grind (arith, first_found 64 (λ c. is_free (last_cells heap node.number c)), none_passes heap.unused node.number node.near none)
+-- where the stack is empty no cell is free
+pub none_free : (cells : Cells) (n : ℕ) (frees : ℕ → List ℕ) → n < 16 → frees n ≡ [] → Stacked is_free cells frees → some_free cells n ≡ false
+none_free cells n frees near none unused = grind (arith, first_found 64 (λ c. is_free (cells n c)), none_passes unused n near none)
 
 -- what follows once cell c of node n is taken from the stack and into use
 pub record Making (heap : LastHeap) (n : ℕ) (colour : Colour) (rest : Stacks) (c : ℕ) (after : Table) : Type 0 where
