@@ -1,5 +1,5 @@
 -- What a table says of a cell: the cell is what the sets and slots of its node's row say, and a cell in use has four slots.
-use Rattle.std.proofs.Common.{◌≡◌, ℕ, ◌-◌, ◌^◌, ◌<◌, ◌≤◌, true, List, [], length, get_or, arith}
+use Rattle.std.proofs.Common.{◌≡◌, ℕ, ◌-◌, ◌^◌, ◌<◌, ◌≤◌, true, [], length, get_or, arith}
 use Rattle.std.proofs.lemmas.Bool.Decides.{nat_tests}
 use Rattle.std.proofs.lemmas.Nat.Bits.{bit_at_ones}
 use Rattle.std.proofs.lemmas.List.{get_or_past}
@@ -23,7 +23,7 @@ row_of t n = get_or t.rows n free_row
 abbrev pub held : Table → ℕ → ℕ → Cell
 held t n c = cell_of (has (row_of t n).free c) (has (row_of t n).black c) (has (row_of t n).grey c) (slots_at (row_of t n) c)
 
--- which is so of each of its 64 cells
+-- each of the 64 cells of a node is that
 pub cell_in : (t : Table) (n c : ℕ) → c < 64 → cells_of t n c ≡ held t n c
 unfolding row_cells rows_cells
 cell_in t n c low = grind (arith, nat_tests, slice_get-get_or t.rows n free_row, slice_get_past t.rows n, get_or_past t.rows n free_row, bit_at_ones 64 c low)
