@@ -7,13 +7,8 @@ use Rattle.model.specs.declared.message.Message.{Message}
 use Rattle.model.specs.declared.refusal.Refusal.{Refusal}
 use Rattle.model.proofs.Counts.{added_length}
 use Rattle.queue.specs.Queues.{lane, lanes, PutsLast}
-use Rattle.channels.specs.Channels.{channel_waiting, channel_capacity, TakesChosen}
-use Rattle.channels.specs.declared.choice.Picked.{Picked}
-use Rattle.channels.specs.declared.queue_channel.QueueChannel.{QueueChannel}
+use Rattle.channels.specs.Channels.{Bag, channel_waiting, channel_capacity, TakesPicked}
 use Rattle.known_bag.proofs.Lanes.{lane_more}
-
-abbrev Bag : Type 0
-Bag = QueueChannel Picked
 
 -- one message more waits for its node, where there is room
 pub record More (before : Bag) (m : Message) (after : Bag) : Type 0 where
@@ -33,7 +28,7 @@ one_more before after m (Err why) roomy (asked, same) stays = absurd (grind (ari
 -- of two that wait for node n, an odd pick gives the later one
 later : (before after : Bag) (n pick : ℕ) (first second : Message) (r : Result (Option Message) Refusal) → n < 16
     → lanes before.queue n ≡ first ∷ second ∷ [] → pick % 2 ≡ 1
-    → Takes channel_waiting channel_capacity before n r after → TakesChosen (λ pick count. pick % count) before n pick r after → r ≡ Ok (Some second)
+    → Takes channel_waiting channel_capacity before n r after → TakesPicked before n pick r after → r ≡ Ok (Some second)
 later before after n pick first second (Ok given) near waits odd takes picked =
     let number : pick % length (lanes before.queue n) ≡ 1 = ap (λ xs. pick % length xs) waits ∙ odd in
     ap Ok (picked.which ∙ ap₂ slice_get waits number)
@@ -44,7 +39,7 @@ module _ (bag once twice after : Bag) (n pick : ℕ) (first second : Message) (r
     (none : channel_waiting bag ≡ []) (wide : channel_capacity bag ≡ 64) (to : first.to ≡ n) (to_2 : second.to ≡ n)
     (put : Puts channel_waiting channel_capacity bag first r once) (last : PutsLast bag.queue first r once.queue)
     (put_2 : Puts channel_waiting channel_capacity once second s twice) (last_2 : PutsLast once.queue second s twice.queue)
-    (take : Takes channel_waiting channel_capacity twice n t after) (picked : TakesChosen (λ pick count. pick % count) twice n pick t after) where
+    (take : Takes channel_waiting channel_capacity twice n t after) (picked : TakesPicked twice n pick t after) where
   pub later_of_two : n < 16 → pick % 2 ≡ 1 → t ≡ Ok (Some second)
   later_of_two near odd =
       let empty : length (channel_waiting bag) ≡ 0 = ap length none in
