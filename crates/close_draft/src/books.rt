@@ -85,7 +85,7 @@ pub fn in_use<H: Heap>(heap: &H) -> InUse {
 }
 
 // A cell of the host.
-pub fn of_host(number: u8) -> Reference
+fn of_host(number: u8) -> Reference
     requires { number < 64 }
 {
     Reference::new(HOST, number).unwrap()

@@ -53,7 +53,7 @@ impl<T: Copy, const ROOM: usize> ShortList<T, ROOM> {
 }
 
 impl<T: Copy + PartialEq, const ROOM: usize> ShortList<T, ROOM> {
-    // Drops an item wherever it stands; the others stay in order.
+    // Drops an item wherever it stands; the others stay in order. In place, by two indices: filled again from a copy it cost its whole room each time.
     pub fn remove(&mut self, item: T)
         ensures { listed self.new ≡ filter (λ x. not (T.eq x item)) (listed self.old) }
     {
