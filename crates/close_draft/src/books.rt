@@ -1,5 +1,6 @@
 // The cells of the host, as the story makes, links and lists them.
 ghost use Rattle.std.specs.Prelude.{◌<◌};
+ghost use Rattle.model.specs.References.{Names};
 
 use model::{Colour, Heap, Reference, Refusal};
 use short_list::ShortList;
@@ -87,6 +88,7 @@ pub fn in_use<H: Heap>(heap: &H) -> InUse {
 // A cell of the host.
 fn of_host(number: u8) -> Reference
     requires { number < 64 }
+    ensures { Names 0 number result }
 {
     Reference::new(HOST, number).unwrap()
 }

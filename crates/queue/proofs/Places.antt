@@ -1,11 +1,10 @@
 -- Where number k of a lane stands among all messages.
 -- It is the message at its place; where there is no place, the lane is no longer.
-use Rattle.std.proofs.Common.{◌≡◌, ℕ, zero, suc, ◌+◌, ◌-◌, ◌<◌, ◌≤◌, cond, List, [], ◌∷◌, length, Some, None, Option, refl, arith}
+use Rattle.std.proofs.Common.{◌≡◌, ℕ, zero, suc, ◌+◌, ◌-◌, ◌<◌, ◌≤◌, cond, List, [], ◌∷◌, length, Some, None, Option, arith}
 use native.Mathlib.Numerals.{unary_clauses}
 use Rattle.std.specs.List.{slice_get, remove}
 use Rattle.std.specs.Option.{option_map}
 use Rattle.std.proofs.lemmas.Bool.Decides.{nat_tests}
-use Rattle.std.proofs.lemmas.Option.{slice_get_past}
 use Rattle.model.specs.Messages.{for}
 use Rattle.model.specs.declared.message.Message.{Message}
 use Rattle.queue.specs.Queues.{lane, placed, place_of}
@@ -27,15 +26,6 @@ stands n i (x ∷ xs) (suc k) = grind (arith, behind n i x xs k _ (stands n (i +
 
 pub past : (n : ℕ) (xs : List Message) (k : ℕ) → place_of n xs k ≡ None → length (lane n xs) ≤ k
 past n xs k none = rw none at (stands n 0 xs k)
-
--- a lane has as many places as messages
-placed_length : (n i : ℕ) (xs : List Message) → length (placed n i xs) ≡ length (lane n xs)
-placed_length n i [] = refl
-placed_length n i (x ∷ xs) = grind (arith, placed_length n (i + 1) xs)
-
--- and where the lane is no longer, there is no place
-pub none_past : (n : ℕ) (xs : List Message) (k : ℕ) → length (lane n xs) ≤ k → place_of n xs k ≡ None
-none_past n xs k short = rw (slice_get_past (placed n 0 xs) k (omega (arith, placed_length n 0 xs))) refl
 
 module _ (n : ℕ) (xs : List Message) (k at : ℕ) (place : place_of n xs k ≡ Some at) where
   here : Stands n 0 xs k (Some at)
